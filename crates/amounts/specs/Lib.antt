@@ -1,0 +1,5 @@
+pub mod Faults
+pub mod Amount
+pub mod Forms
+pub mod Kinds
+pub mod Sampling

@@ -1,0 +1,28 @@
+//! Limits that every kind of cost shares.
+ghost use mathlib.Core.Path.{_≡_};
+ghost use Rattle.amounts.specs.Amount.{fits};
+ghost use Rattle.amounts.specs.Kinds.{field};
+
+/// Sums and differences are exact while the sizes of the two total at most this.
+pub const EXACT: u64 = 1 << 60;
+
+/// Samples in a label's form stand below this.
+pub const SAMPLES: u64 = 1 << 44;
+
+/// Moves in a label's form stand below this.
+pub const MOVES: u64 = 1 << 32;
+
+/// Whether two sizes total at most the limit.
+pub fn fit(a: u64, b: u64) -> bool
+    ensures { λ r. ⌜ r ≡ fits a b ⌝ }
+{
+    a <= EXACT && b <= EXACT - a
+}
+
+/// A number as it stands in a page's field below `limit`: absent where it is too large or below zero.
+pub fn in_field(a: i64, limit: u64) -> Option<u64>
+    ensures { λ r. ⌜ r ≡ field limit a ⌝ }
+{
+    let n = u64::try_from(a).ok()?;
+    if n < limit { Some(n) } else { None }
+}

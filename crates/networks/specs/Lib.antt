@@ -1,0 +1,5 @@
+pub mod Nets
+pub mod Given
+pub mod Shut
+pub mod Twin
+pub mod Drawn

@@ -1,0 +1,105 @@
+-- The twin line's network, worked out by number.
+use mathlib.Core.Bool.{Bool, true, false, cond, _&&_}
+use mathlib.Core.List.{List, [], _∷_, map}
+use Prim.Native.Nat.{ℕ, _+_, _-_, _*_, _/_, _%_}
+use lib.Dec.{eqb, ltb, leb}
+use Rattle.std.specs.Iters.{counting}
+use Rattle.std.specs.declared.option.Option.{Option}
+use Rattle.std.specs.declared.option.Option.the-variants.{Some, None}
+use Rattle.std.specs.declared.result.Result.{Result}
+use Rattle.std.specs.declared.result.Result.the-variants.{Ok, Err}
+use Rattle.amounts.specs.Faults.{ranged}
+use Rattle.amounts.specs.Forms.{sectionForm}
+use Rattle.amounts.specs.Sampling.{lengthFits, rateFits, samplesIn}
+use Rattle.amounts.specs.declared.cost.SectionForm.{SectionForm}
+use Rattle.amounts.specs.declared.faults.Fault.{Fault}
+use Rattle.amounts.specs.declared.faults.Side.{Side}
+use Rattle.amounts.specs.declared.faults.Side.the-variants.{Forward, Backward}
+use Rattle.networks.specs.declared.drawing.Drawing.{Drawing}
+use Rattle.networks.specs.declared.section.Section.{Section}
+use Rattle.networks.specs.declared.twin_line.TwinLine.{TwinLine}
+use Rattle.networks.specs.Nets.{Net}
+
+-- From the drawing ---------------------------------------------------------------------------
+
+-- what a twin line holds: stations a pipe, spacing, and the samples of each sort of section
+pub record Line : Type 0 where
+  pub count : ℕ
+  pub spacing : ℕ
+  pub upper : ℕ
+  pub lower : ℕ
+  pub crossover : ℕ
+
+abbrev pub lineOf : TwinLine → Line
+lineOf t = record { count = t .count; spacing = t .spacing; upper = t .upper; lower = t .lower; crossover = t .crossover }
+
+abbrev pub onOk : {A B E : Type 0} → (A → B) → Result A E → Result B E
+onOk f (Ok a) = Ok (f a)
+onOk f (Err e) = Err e
+
+abbrev pub between : ℕ → ℕ → ℕ → Bool
+between low high n = leb low n && leb n high
+
+-- the parameters in their order: count, spacing, upper, lower, crossover, rate
+abbrev pub lineDrawn : Drawing → Result Line Fault
+lineDrawn d =
+    ranged
+      (between 1 2048 (d .count) ∷ between 1 2048 (d .spacing) ∷ lengthFits (d .upper) ∷ lengthFits (d .lower) ∷ lengthFits (d .crossover) ∷ rateFits (d .rate) ∷ [])
+      (record {
+        count = d .count;
+        spacing = d .spacing;
+        upper = samplesIn (d .upper) (d .rate);
+        lower = samplesIn (d .lower) (d .rate);
+        crossover = samplesIn (d .crossover) (d .rate);
+      })
+
+-- By number ----------------------------------------------------------------------------------
+
+-- the sections along either pipe, and all of them
+abbrev pub along : TwinLine → ℕ
+along t = t .count - 1
+
+abbrev pub sectionCount : TwinLine → ℕ
+sectionCount t = 2 * along t + 2 * (along t / t .spacing + 1)
+
+-- the place on the line of a section across, and whether it goes down
+abbrev pub crossPlace : TwinLine → ℕ → ℕ
+crossPlace t n = (n - 2 * along t) / 2 * t .spacing
+
+abbrev pub crossDown : TwinLine → ℕ → Bool
+crossDown t n = eqb ((n - 2 * along t) % 2) 0
+
+-- the station at which a side comes to the numbered section
+abbrev pub endOf : TwinLine → Side → ℕ → ℕ
+endOf t Forward n =
+    cond (ltb n (along t)) n
+    (cond (ltb n (2 * along t)) (t .count + (n - along t))
+    (cond (crossDown t n) (crossPlace t n) (t .count + crossPlace t n)))
+endOf t Backward n =
+    cond (ltb n (along t)) (n + 1)
+    (cond (ltb n (2 * along t)) (t .count + (n - along t) + 1)
+    (cond (crossDown t n) (t .count + crossPlace t n) (crossPlace t n)))
+
+abbrev pub openSection : {S : Type 0} → ℕ → ℕ → S → Section S
+openSection from to amount = record { from = from; to = to; amount = amount; shut = false }
+
+-- `made` gives a kind's amount for a form
+module _ {S : Type 0} (made : SectionForm → S) (t : TwinLine) where
+  abbrev pub amountOf : ℕ → S
+  amountOf n = cond (ltb n (along t)) (made (sectionForm 0 (t .upper))) (cond (ltb n (2 * along t)) (made (sectionForm 0 (t .lower))) (made (sectionForm 1 (t .crossover))))
+
+  abbrev pub numbered : ℕ → Section S
+  numbered n = openSection (endOf t Forward n) (endOf t Backward n) (amountOf n)
+
+  abbrev pub twinNet : Net S
+  twinNet = record { stations = 2 * t .count; launcher = 0; trap = 2 * t .count - 1; sections = map numbered (counting 0 (sectionCount t)) }
+
+-- One at most --------------------------------------------------------------------------------
+
+abbrev pub isForward : Side → Bool
+isForward Forward = true
+isForward Backward = false
+
+abbrev pub orNone : Option ℕ → List ℕ → List ℕ
+orNone None rest = rest
+orNone (Some n) rest = n ∷ rest
