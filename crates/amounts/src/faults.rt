@@ -109,14 +109,21 @@ impl Fault {
     }
 }
 
+/// A fault of the network layer.
+pub fn network_fault(refusal: Refusal) -> Fault
+    ensures { λ r. ⌜ r ≡ networkFault refusal ⌝ }
+{
+    Fault {
+        refusal,
+        layer: Layer::Network,
+    }
+}
+
 /// The fault of a call's first parameter that breaks its range, counted from 0.
 pub fn out_of_range(parameter: usize) -> Fault
     ensures { λ r. ⌜ r ≡ networkFault (ParameterOutOfRange parameter) ⌝ }
 {
-    Fault {
-        refusal: Refusal::ParameterOutOfRange { parameter },
-        layer: Layer::Network,
-    }
+    network_fault(Refusal::ParameterOutOfRange { parameter })
 }
 
 /// As every program prints it: `refused`, the number and the place.

@@ -1,5 +1,7 @@
+pub mod Ranges
 pub mod Nets
 pub mod Given
+pub mod Blanks
 pub mod Shut
 pub mod Twin
 pub mod Drawn

@@ -19,6 +19,7 @@ use Rattle.networks.specs.declared.drawing.Drawing.{Drawing}
 use Rattle.networks.specs.declared.section.Section.{Section}
 use Rattle.networks.specs.declared.twin_line.TwinLine.{TwinLine}
 use Rattle.networks.specs.Nets.{Net}
+use Rattle.networks.specs.Ranges.{between}
 
 -- From the drawing ---------------------------------------------------------------------------
 
@@ -32,13 +33,6 @@ pub record Line : Type 0 where
 
 abbrev pub lineOf : TwinLine → Line
 lineOf t = record { count = t .count; spacing = t .spacing; upper = t .upper; lower = t .lower; crossover = t .crossover }
-
-abbrev pub onOk : {A B E : Type 0} → (A → B) → Result A E → Result B E
-onOk f (Ok a) = Ok (f a)
-onOk f (Err e) = Err e
-
-abbrev pub between : ℕ → ℕ → ℕ → Bool
-between low high n = leb low n && leb n high
 
 -- the parameters in their order: count, spacing, upper, lower, crossover, rate
 abbrev pub lineDrawn : Drawing → Result Line Fault

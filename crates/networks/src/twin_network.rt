@@ -5,9 +5,11 @@ ghost use mathlib.Core.Logic.{_↔_};
 ghost use Prim.Native.Nat.{_*_, _<_};
 ghost use Rattle.std.specs.shelf.Maps.{nth};
 ghost use Rattle.std.specs.declared.option.Option.the-variants.{Some};
+ghost use Rattle.amounts.specs.Forms.{sectionForm};
 ghost use Rattle.networks.specs.declared.section.Section.{Section as Part};
 ghost use Rattle.networks.specs.Nets.{starters};
-ghost use Rattle.networks.specs.Twin.{onOk, lineOf, lineDrawn, between as inside, twinNet, numbered as sectionBy, along as alongOf, sectionCount, endOf, openSection, isForward, orNone};
+ghost use Rattle.networks.specs.Twin.{lineOf, lineDrawn, twinNet, numbered as sectionBy, along as alongOf, sectionCount, endOf, openSection, isForward, orNone};
+ghost use Rattle.networks.specs.Ranges.{onOk, between as inside};
 ghost use Rattle.networks.specs.Drawn.{Drawn, Only, Crossing};
 use crate::drawing::Drawing;
 use crate::network::Network;
@@ -40,6 +42,12 @@ fn open_section<A>(from: usize, to: usize, amount: A) -> Section<A>
         amount,
         shut: false,
     }
+}
+
+fn amount<C: Cost>(moves: u16, samples: u32) -> C::Section
+    ensures { λ r. ⌜ r ≡ C·Cost .made (sectionForm moves samples) ⌝ }
+{
+    C::made(SectionForm { moves, samples })
 }
 
 fn is_forward(side: Side) -> bool
@@ -100,5 +108,138 @@ impl TwinLine {
             lower: samples_of(lower, rate)?,
             crossover: samples_of(crossover, rate)?,
         })
+    }
+}
+
+impl TwinLine {
+    /// The section along a pipe to which a side comes at the station.
+    fn along(&self, side: Side, station: usize) -> Option<usize>
+        ensures { λ r. ⌜ Only (endOf (now (self .entry)) side) station 0 (2 * alongOf (now (self .entry))) r ⌝ }
+    {
+        let count = self.count;
+        match side {
+            Side::Forward => {
+                if station < count - 1 {
+                    Some(station)
+                } else if station >= count && station < 2 * count - 1 {
+                    Some(station - 1)
+                } else {
+                    None
+                }
+            }
+            Side::Backward => {
+                if station > 0 && station < count {
+                    Some(station - 1)
+                } else if station > count && station < 2 * count {
+                    Some(station - 2)
+                } else {
+                    None
+                }
+            }
+        }
+    }
+
+    /// The section across at this place of the line, down or up.
+    fn crossing(&self, place: usize, down: bool) -> Option<usize>
+        requires { ⌜ place < now self .count ⌝ }
+        ensures { λ r. ⌜ Crossing (now (self .entry)) place down r ⌝ }
+    {
+        if place % self.spacing != 0 {
+            return None;
+        }
+        let first = 2 * (self.count - 1) + 2 * (place / self.spacing);
+        if down { Some(first) } else { Some(first + 1) }
+    }
+
+    /// The section across to which a side comes at the station.
+    fn across(&self, side: Side, station: usize) -> Option<usize>
+        ensures { λ r. ⌜ Only (endOf (now (self .entry)) side) station (2 * alongOf (now (self .entry))) (sectionCount (now (self .entry))) r ⌝ }
+    {
+        if station < self.count {
+            self.crossing(station, is_forward(side))
+        } else if station < 2 * self.count {
+            self.crossing(station - self.count, !is_forward(side))
+        } else {
+            None
+        }
+    }
+
+    /// Along and across.
+    fn section_count(&self) -> usize
+        ensures { λ r. ⌜ r ≡ sectionCount (now (self .entry)) ⌝ }
+    {
+        let along = self.count - 1;
+        2 * along + 2 * (along / self.spacing + 1)
+    }
+
+    /// The numbered section: along the upper pipe, along the lower one, or across.
+    fn numbered<C: Cost>(&self, number: usize) -> Section<C::Section>
+        requires { ⌜ number < sectionCount (now self) ⌝ }
+        ensures { λ r. ⌜ r ≡ sectionBy (C·Cost .made) (now (self .entry)) number ⌝ }
+    {
+        let count = self.count;
+        let along = count - 1;
+        if number < along {
+            return open_section(number, number + 1, amount::<C>(0, self.upper));
+        }
+        if number < 2 * along {
+            let from = count + (number - along);
+            return open_section(from, from + 1, amount::<C>(0, self.lower));
+        }
+        let rest = number - 2 * along;
+        let place = rest / 2 * self.spacing;
+        let amount = amount::<C>(1, self.crossover);
+        if rest % 2 == 0 {
+            open_section(place, count + place, amount)
+        } else {
+            open_section(count + place, place, amount)
+        }
+    }
+
+    /// The number of the k-th section to which a side comes at the station: one along and one across at most.
+    fn touching<C: Cost>(&self, side: Side, station: usize, k: usize) -> Option<usize>
+        ensures { λ r. ⌜ r ≡ nth (starters side (twinNet (C·Cost .made) (now (self .entry))) station) k ⌝ }
+    {
+        kth(self.along(side, station), self.across(side, station), k)
+    }
+}
+
+pub impl<C: Cost> Network<C> for TwinLine as TwinNetwork {
+    ghost meaning = { λ t. twinNet (C·Cost .made) t };
+
+    fn stations(&self) -> usize {
+        2 * self.count
+    }
+
+    fn sections(&self) -> usize {
+        self.section_count()
+    }
+
+    fn launcher(&self) -> usize {
+        0
+    }
+
+    fn trap(&self) -> usize {
+        2 * self.count - 1
+    }
+
+    /// The section that is drawn under this number, if any is.
+    fn section(&self, number: usize) -> Option<Section<C::Section>>
+        ensures exact { λ r. ⌜ r ≡ nth (twinNet (C·Cost .made) (now (self .entry)) .sections) number ⌝ }
+        ensures drawn { λ r. ⌜ ((s : Part C·Section) → (r ≡ Some s) ↔ Drawn (C·Cost .made) (now (self .entry)) number s) ⌝ }
+    {
+        if number < self.section_count() {
+            Some(self.numbered::<C>(number))
+        } else {
+            None
+        }
+    }
+
+    fn leaving(&self, station: usize, k: usize) -> Option<usize> {
+        self.touching::<C>(Side::Forward, station, k)
+    }
+
+    fn entering(&self, station: usize, k: usize) -> Option<usize> {
+        self.touching::<C>(Side::Backward, station, k)
     }
 }

@@ -1,0 +1,14 @@
+use mathlib.Core.Path.{_≡_, sym, subst}
+use mathlib.Core.Bool.{Bool}
+use Rattle.networks.specs.Drawn.{Crossing}
+use Rattle.networks.proofs.Crossings.{cross-none, cross-at-down, cross-at-up}
+use Rattle.networks.proofs.twin_line.TwinLine.crossing.Needs as need
+
+pub returns-then-place-self-ne0 : need.returns-then-place-self-ne0
+returns-then-place-self-ne0 c = cross-none (c .args .self .now) (c .args .place) (c .args .down) (c .if-place-self-ne0 .taken)
+
+pub returns-then-down : need.returns-then-down
+returns-then-down c = rw (c .if-down .taken) (cross-at-down (c .args .self .now) (c .args .place) (c .if-place-self-ne0 .left) (c .pre))
+
+pub returns-else-down : need.returns-else-down
+returns-else-down c = rw (c .if-down .left) (cross-at-up (c .args .self .now) (c .args .place) (c .if-place-self-ne0 .left) (c .pre))
