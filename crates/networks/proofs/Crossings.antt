@@ -12,12 +12,11 @@ use Rattle.std.proofs.shelf.Tests.{le-ltb, eq-eqb, ne-eqb, eqb-true, eqb-false,
 use Rattle.std.proofs.shelf.Ways.{tells}
 use Rattle.amounts.specs.declared.faults.Side.{Side}
 use Rattle.amounts.specs.declared.faults.Side.the-variants.{Forward, Backward}
-use Rattle.networks.specs.declared.twin_line.TwinLine.{TwinLine}
-use Rattle.networks.specs.Drawn.{Only, Crossing}
-use Rattle.networks.specs.Twin.{along, sectionCount, endOf, crossPlace, crossDown, isForward}
+use Rattle.networks.specs.Touching.{Only, Crossing, isForward}
+use Rattle.networks.specs.Twin.{Line, LineRange, along, sectionCount, endOf, crossPlace, crossDown}
 use Rattle.networks.proofs.Twins.{place-within}
 
-module _ (t : TwinLine) (place : ℕ) where
+module _ (t : Line) (r : LineRange t) (place : ℕ) where
   -- where the place is no multiple of the spacing, nothing crosses
   pub cross-none : (down : Bool) → (place % t .spacing ≡ 0 → ⊥) → Crossing t place down None
   cross-none down h = record {
@@ -58,7 +57,7 @@ module _ (t : TwinLine) (place : ℕ) where
       alone = λ m lo hi at′ way. ap Some (omega (arith, quotient m at′, eqb-false _ _ way)) }
 
 -- what crosses at a place has its ends at the two stations there
-module _ (t : TwinLine) where
+module _ (t : Line) (r : LineRange t) where
   from-across : (m : ℕ) → 2 * along t ≤ m → endOf t Forward m ≡ cond (crossDown t m) (crossPlace t m) (t .count + crossPlace t m)
   from-across m h = rw (le-ltb m (along t) (omega arith), le-ltb m (2 * along t) h)
 
@@ -66,7 +65,7 @@ module _ (t : TwinLine) where
   to-across m h = rw (le-ltb m (along t) (omega arith), le-ltb m (2 * along t) h)
 
   on-line : (m : ℕ) → m < sectionCount t → crossPlace t m ≤ along t
-  on-line m h = place-within t (m - 2 * along t) (omega arith)
+  on-line m h = place-within t r (m - 2 * along t) (omega arith)
 
   module _ (station : ℕ) (o : Option ℕ) where
     pub across-upper : (side : Side) → station < t .count → Crossing t station (isForward side) o → Only (endOf t side) station (2 * along t) (sectionCount t) o

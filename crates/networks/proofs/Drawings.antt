@@ -14,12 +14,11 @@ use Rattle.amounts.specs.Forms.{sectionForm}
 use Rattle.amounts.specs.declared.cost.SectionForm.{SectionForm}
 use Rattle.amounts.specs.declared.faults.Side.the-variants.{Forward, Backward}
 use Rattle.networks.specs.declared.section.Section.{Section}
-use Rattle.networks.specs.declared.twin_line.TwinLine.{TwinLine}
-use Rattle.networks.specs.Twin.{along, sectionCount, crossPlace, crossDown, endOf, amountOf, openSection, numbered, twinNet}
+use Rattle.networks.specs.Twin.{Line, LineRange, along, sectionCount, crossPlace, crossDown, endOf, amountOf, openSection, numbered, twinNet}
 use Rattle.networks.specs.Drawn.{Drawn, upper-run, lower-run, down, up}
 use Rattle.networks.proofs.Twins.{place-within, nth-counting, nth-counting-past}
 
-module _ {S : Type 0} (made : SectionForm → S) (t : TwinLine) where
+module _ {S : Type 0} (made : SectionForm → S) (t : Line) (r : LineRange t) where
   abbrev crossed : S
   crossed = made (sectionForm 1 (t .crossover))
 
@@ -46,7 +45,7 @@ module _ {S : Type 0} (made : SectionForm → S) (t : TwinLine) where
         (λ l. ⊎-elim
           (λ k. as-drawn n _ _ _ (omega arith) (sym (at-lower n l k)) (lower-run (n - along t) (omega arith)))
           (λ k.
-            let p : crossPlace t n ≤ along t = place-within t (n - 2 * along t) (omega arith) in
+            let p : crossPlace t n ≤ along t = place-within t r (n - 2 * along t) (omega arith) in
             ⊎-elim
               (λ e. as-drawn n _ _ _ (omega arith) (sym (at-down n k e)) (down ((n - 2 * along t) / 2) (omega arith)))
               (λ e. as-drawn n _ _ _ (omega arith) (sym (at-up n k e)) (up ((n - 2 * along t) / 2) (omega arith)))

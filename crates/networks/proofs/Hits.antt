@@ -11,8 +11,7 @@ use Rattle.std.specs.declared.option.Option.{Option}
 use Rattle.std.specs.declared.option.Option.the-variants.{Some, None}
 use Rattle.std.proofs.shelf.Tests.{eqb-true, eqb-false, cases-bool, cases-lt}
 use Rattle.networks.specs.Nets.{numbers}
-use Rattle.networks.specs.Drawn.{Only}
-use Rattle.networks.specs.Twin.{orNone}
+use Rattle.networks.specs.Touching.{Only, orNone}
 
 at-or-past : (a m : ℕ) → a ≤ m → (a ≡ m) ⊎ (a + 1 ≤ m)
 at-or-past a m h = ⊎-elim (λ l. inr (omega arith)) (λ l. inl (omega arith)) (cases-lt a m)

@@ -22,7 +22,7 @@ use Rattle.networks.specs.declared.twin_line.TwinLine.{TwinLine}
 use Rattle.networks.specs.Nets.{Net, SectionInRange, InRange}
 use Rattle.amounts.specs.Forms.{SectionRange, sectionForm}
 use Rattle.amounts.specs.declared.cost.SectionForm.{SectionForm}
-use Rattle.networks.specs.Twin.{along, sectionCount, amountOf, numbered, twinNet, crossPlace}
+use Rattle.networks.specs.Twin.{Line, LineRange, lineOf, along, sectionCount, amountOf, numbered, twinNet, crossPlace}
 
 module _ {X : Type 0} (f : ℕ → X) where
   pub nth-counting : (n i : ℕ) → i < n → Some (f i) ≡ nth (map f (counting 0 n)) i
@@ -37,7 +37,10 @@ module _ {X : Type 0} (f : ℕ → X) where
   all-counting P a zero h = tt
   all-counting P a (suc n) h = (h a (omega arith) (omega arith), all-counting P (a + 1) n (λ i l m. h i (omega arith) (omega arith)))
 
-module _ (t : TwinLine) where
+pub line-range : (t : TwinLine) → LineRange (lineOf t)
+line-range t = record { counted = t .counted; spaced = t .spaced; fit = t .fit }
+
+module _ (t : Line) (r : LineRange t) where
   -- a crossing's place is on the line
   pub place-within : (rest : ℕ) → rest < 2 * (along t / t .spacing + 1) → rest / 2 * t .spacing ≤ along t
   place-within rest h =
@@ -45,17 +48,17 @@ module _ (t : TwinLine) where
       let l : rest / 2 ≤ along t / t .spacing = omega arith in
       le-div-iff-mul-le {k = t .spacing} {x = rest / 2} {y = along t} k .0 l
 
-module _ {S : Type 0} (parts : S → SectionForm) (made : SectionForm → S) (kept : (f : SectionForm) → SectionRange f → SectionRange (parts (made f))) (t : TwinLine) where
+module _ {S : Type 0} (parts : S → SectionForm) (made : SectionForm → S) (kept : (f : SectionForm) → SectionRange f → SectionRange (parts (made f))) (t : Line) (r : LineRange t) where
   amount-range : (n : ℕ) → SectionRange (parts (amountOf made t n))
   amount-range n =
       let fair : S → Type 0 = λ a. SectionRange (parts a) in
-      cond-both (ltb n (along t)) _ _ fair (λ _. kept (sectionForm 0 (t .upper)) (record { moves = lit< tt; samples = t .fit .0 }))
-      (λ _. cond-both (ltb n (2 * along t)) _ _ fair (λ _. kept (sectionForm 0 (t .lower)) (record { moves = lit< tt; samples = t .fit .1 }))
-      (λ _. kept (sectionForm 1 (t .crossover)) (record { moves = lit< tt; samples = t .fit .2 })))
+      cond-both (ltb n (along t)) _ _ fair (λ _. kept (sectionForm 0 (t .upper)) (record { moves = lit< tt; samples = r .fit .0 }))
+      (λ _. cond-both (ltb n (2 * along t)) _ _ fair (λ _. kept (sectionForm 0 (t .lower)) (record { moves = lit< tt; samples = r .fit .1 }))
+      (λ _. kept (sectionForm 1 (t .crossover)) (record { moves = lit< tt; samples = r .fit .2 })))
 
   within : (n : ℕ) → n < sectionCount t → SectionInRange parts (2 * t .count) (numbered made t n)
   within n h =
-      let p : crossPlace t n ≤ along t = place-within t (n - 2 * along t) (omega arith) in
+      let p : crossPlace t n ≤ along t = place-within t r (n - 2 * along t) (omega arith) in
       record { from = grind (arith, tells); to = grind (arith, tells); amount = amount-range n }
 
   pub range-twin : InRange parts (twinNet made t)

@@ -1,30 +1,15 @@
 -- The twin line as it is drawn: an upper run, a lower run, and two crossovers at every multiple of the spacing.
-use mathlib.Core.Path.{_≡_}
-use mathlib.Core.Bool.{Bool}
-use Prim.Native.Nat.{ℕ, _+_, _-_, _*_, _<_, _≤_}
-use Rattle.std.specs.declared.option.Option.{Option}
-use Rattle.std.specs.declared.option.Option.the-variants.{Some}
+use Prim.Native.Nat.{ℕ, _+_, _-_, _*_, _<_}
 use Rattle.amounts.specs.Forms.{sectionForm}
 use Rattle.amounts.specs.declared.cost.SectionForm.{SectionForm}
 use Rattle.networks.specs.declared.section.Section.{Section}
-use Rattle.networks.specs.declared.twin_line.TwinLine.{TwinLine}
-use Rattle.networks.specs.Twin.{along, sectionCount, crossPlace, crossDown, openSection}
+use Rattle.networks.specs.Twin.{Line, openSection}
 
 -- Upper station i is i, and lower station i is L + i, for i below the count L. `made` gives a kind's amount for a form.
-pub data Drawn {S : Type 0} (made : SectionForm → S) (t : TwinLine) : ℕ → Section S → Type 0 where
+pub data Drawn {S : Type 0} (made : SectionForm → S) (t : Line) : ℕ → Section S → Type 0 where
   -- the i-th section of either run goes one station on
   upper-run : (i : ℕ) → i + 1 < t .count → Drawn made t i (openSection i (i + 1) (made (sectionForm 0 (t .upper))))
   lower-run : (i : ℕ) → i + 1 < t .count → Drawn made t (t .count - 1 + i) (openSection (t .count + i) (t .count + i + 1) (made (sectionForm 0 (t .lower))))
   -- the j-th crossing is at the j-th multiple of the spacing: one section down and the next one up, each with a valve move
   down : (j : ℕ) → j * t .spacing < t .count → Drawn made t (2 * (t .count - 1) + 2 * j) (openSection (j * t .spacing) (t .count + j * t .spacing) (made (sectionForm 1 (t .crossover))))
   up : (j : ℕ) → j * t .spacing < t .count → Drawn made t (2 * (t .count - 1) + 2 * j + 1) (openSection (t .count + j * t .spacing) (j * t .spacing) (made (sectionForm 1 (t .crossover))))
-
--- the only number from low up to high whose value is s, if any is
-pub record Only (value : ℕ → ℕ) (s low high : ℕ) (o : Option ℕ) : Type 0 where
-  pub here : (m : ℕ) → o ≡ Some m → (low ≤ m) × (m < high) × (value m ≡ s)
-  pub alone : (m : ℕ) → low ≤ m → m < high → value m ≡ s → o ≡ Some m
-
--- the only section across at a place, down or up
-pub record Crossing (t : TwinLine) (place : ℕ) (down : Bool) (o : Option ℕ) : Type 0 where
-  pub here : (m : ℕ) → o ≡ Some m → (2 * along t ≤ m) × (m < sectionCount t) × (crossPlace t m ≡ place) × (crossDown t m ≡ down)
-  pub alone : (m : ℕ) → 2 * along t ≤ m → m < sectionCount t → crossPlace t m ≡ place → crossDown t m ≡ down → o ≡ Some m

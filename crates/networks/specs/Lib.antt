@@ -5,3 +5,4 @@ pub mod Blanks
 pub mod Shut
 pub mod Twin
 pub mod Drawn
+pub mod Touching

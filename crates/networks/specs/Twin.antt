@@ -1,13 +1,10 @@
 -- The twin line's network, worked out by number.
-use mathlib.Core.Bool.{Bool, true, false, cond, _&&_}
+use mathlib.Core.Bool.{Bool, false, cond}
 use mathlib.Core.List.{List, [], _∷_, map}
-use Prim.Native.Nat.{ℕ, _+_, _-_, _*_, _/_, _%_}
-use lib.Dec.{eqb, ltb, leb}
+use Prim.Native.Nat.{ℕ, _+_, _-_, _*_, _/_, _%_, _^_, _<_, _≤_}
+use lib.Dec.{eqb, ltb}
 use Rattle.std.specs.Iters.{counting}
-use Rattle.std.specs.declared.option.Option.{Option}
-use Rattle.std.specs.declared.option.Option.the-variants.{Some, None}
 use Rattle.std.specs.declared.result.Result.{Result}
-use Rattle.std.specs.declared.result.Result.the-variants.{Ok, Err}
 use Rattle.amounts.specs.Faults.{ranged}
 use Rattle.amounts.specs.Forms.{sectionForm}
 use Rattle.amounts.specs.Sampling.{lengthFits, rateFits, samplesIn}
@@ -31,6 +28,11 @@ pub record Line : Type 0 where
   pub lower : ℕ
   pub crossover : ℕ
 
+pub record LineRange (l : Line) : Type 0 where
+  pub counted : (1 ≤ l .count) × (l .count ≤ 2048)
+  pub spaced : (1 ≤ l .spacing) × (l .spacing ≤ 2048)
+  pub fit : (l .upper < 2 ^ 32) × (l .lower < 2 ^ 32) × (l .crossover < 2 ^ 32)
+
 abbrev pub lineOf : TwinLine → Line
 lineOf t = record { count = t .count; spacing = t .spacing; upper = t .upper; lower = t .lower; crossover = t .crossover }
 
@@ -50,21 +52,21 @@ lineDrawn d =
 -- By number ----------------------------------------------------------------------------------
 
 -- the sections along either pipe, and all of them
-abbrev pub along : TwinLine → ℕ
+abbrev pub along : Line → ℕ
 along t = t .count - 1
 
-abbrev pub sectionCount : TwinLine → ℕ
+abbrev pub sectionCount : Line → ℕ
 sectionCount t = 2 * along t + 2 * (along t / t .spacing + 1)
 
 -- the place on the line of a section across, and whether it goes down
-abbrev pub crossPlace : TwinLine → ℕ → ℕ
+abbrev pub crossPlace : Line → ℕ → ℕ
 crossPlace t n = (n - 2 * along t) / 2 * t .spacing
 
-abbrev pub crossDown : TwinLine → ℕ → Bool
+abbrev pub crossDown : Line → ℕ → Bool
 crossDown t n = eqb ((n - 2 * along t) % 2) 0
 
 -- the station at which a side comes to the numbered section
-abbrev pub endOf : TwinLine → Side → ℕ → ℕ
+abbrev pub endOf : Line → Side → ℕ → ℕ
 endOf t Forward n =
     cond (ltb n (along t)) n
     (cond (ltb n (2 * along t)) (t .count + (n - along t))
@@ -78,7 +80,7 @@ abbrev pub openSection : {S : Type 0} → ℕ → ℕ → S → Section S
 openSection from to amount = record { from = from; to = to; amount = amount; shut = false }
 
 -- `made` gives a kind's amount for a form
-module _ {S : Type 0} (made : SectionForm → S) (t : TwinLine) where
+module _ {S : Type 0} (made : SectionForm → S) (t : Line) where
   abbrev pub amountOf : ℕ → S
   amountOf n = cond (ltb n (along t)) (made (sectionForm 0 (t .upper))) (cond (ltb n (2 * along t)) (made (sectionForm 0 (t .lower))) (made (sectionForm 1 (t .crossover))))
 
@@ -87,13 +89,3 @@ module _ {S : Type 0} (made : SectionForm → S) (t : TwinLine) where
 
   abbrev pub twinNet : Net S
   twinNet = record { stations = 2 * t .count; launcher = 0; trap = 2 * t .count - 1; sections = map numbered (counting 0 (sectionCount t)) }
-
--- One at most --------------------------------------------------------------------------------
-
-abbrev pub isForward : Side → Bool
-isForward Forward = true
-isForward Backward = false
-
-abbrev pub orNone : Option ℕ → List ℕ → List ℕ
-orNone None rest = rest
-orNone (Some n) rest = n ∷ rest

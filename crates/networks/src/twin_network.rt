@@ -8,9 +8,10 @@ ghost use Rattle.std.specs.declared.option.Option.the-variants.{Some};
 ghost use Rattle.amounts.specs.Forms.{sectionForm};
 ghost use Rattle.networks.specs.declared.section.Section.{Section as Part};
 ghost use Rattle.networks.specs.Nets.{starters};
-ghost use Rattle.networks.specs.Twin.{lineOf, lineDrawn, twinNet, numbered as sectionBy, along as alongOf, sectionCount, endOf, openSection, isForward, orNone};
+ghost use Rattle.networks.specs.Twin.{lineOf, lineDrawn, twinNet, numbered as sectionBy, along as alongOf, sectionCount, endOf, openSection};
 ghost use Rattle.networks.specs.Ranges.{onOk, between as inside};
-ghost use Rattle.networks.specs.Drawn.{Drawn, Only, Crossing};
+ghost use Rattle.networks.specs.Drawn.{Drawn};
+ghost use Rattle.networks.specs.Touching.{Only, Crossing, isForward, orNone};
 use crate::drawing::Drawing;
 use crate::network::Network;
 use crate::section::Section;
@@ -114,7 +115,7 @@ impl TwinLine {
 impl TwinLine {
     /// The section along a pipe to which a side comes at the station.
     fn along(&self, side: Side, station: usize) -> Option<usize>
-        ensures { λ r. ⌜ Only (endOf (now (self .entry)) side) station 0 (2 * alongOf (now (self .entry))) r ⌝ }
+        ensures { λ r. ⌜ Only (endOf (lineOf (now (self .entry))) side) station 0 (2 * alongOf (lineOf (now (self .entry)))) r ⌝ }
     {
         let count = self.count;
         match side {
@@ -142,7 +143,7 @@ impl TwinLine {
     /// The section across at this place of the line, down or up.
     fn crossing(&self, place: usize, down: bool) -> Option<usize>
         requires { ⌜ place < now self .count ⌝ }
-        ensures { λ r. ⌜ Crossing (now (self .entry)) place down r ⌝ }
+        ensures { λ r. ⌜ Crossing (lineOf (now (self .entry))) place down r ⌝ }
     {
         if place % self.spacing != 0 {
             return None;
@@ -153,7 +154,7 @@ impl TwinLine {
 
     /// The section across to which a side comes at the station.
     fn across(&self, side: Side, station: usize) -> Option<usize>
-        ensures { λ r. ⌜ Only (endOf (now (self .entry)) side) station (2 * alongOf (now (self .entry))) (sectionCount (now (self .entry))) r ⌝ }
+        ensures { λ r. ⌜ Only (endOf (lineOf (now (self .entry))) side) station (2 * alongOf (lineOf (now (self .entry)))) (sectionCount (lineOf (now (self .entry)))) r ⌝ }
     {
         if station < self.count {
             self.crossing(station, is_forward(side))
@@ -166,7 +167,7 @@ impl TwinLine {
 
     /// Along and across.
     fn section_count(&self) -> usize
-        ensures { λ r. ⌜ r ≡ sectionCount (now (self .entry)) ⌝ }
+        ensures { λ r. ⌜ r ≡ sectionCount (lineOf (now (self .entry))) ⌝ }
     {
         let along = self.count - 1;
         2 * along + 2 * (along / self.spacing + 1)
@@ -174,8 +175,8 @@ impl TwinLine {
 
     /// The numbered section: along the upper pipe, along the lower one, or across.
     fn numbered<C: Cost>(&self, number: usize) -> Section<C::Section>
-        requires { ⌜ number < sectionCount (now self) ⌝ }
-        ensures { λ r. ⌜ r ≡ sectionBy (C·Cost .made) (now (self .entry)) number ⌝ }
+        requires { ⌜ number < sectionCount (lineOf (now self)) ⌝ }
+        ensures { λ r. ⌜ r ≡ sectionBy (C·Cost .made) (lineOf (now (self .entry))) number ⌝ }
     {
         let count = self.count;
         let along = count - 1;
@@ -198,14 +199,14 @@ impl TwinLine {
 
     /// The number of the k-th section to which a side comes at the station: one along and one across at most.
     fn touching<C: Cost>(&self, side: Side, station: usize, k: usize) -> Option<usize>
-        ensures { λ r. ⌜ r ≡ nth (starters side (twinNet (C·Cost .made) (now (self .entry))) station) k ⌝ }
+        ensures { λ r. ⌜ r ≡ nth (starters side (twinNet (C·Cost .made) (lineOf (now (self .entry)))) station) k ⌝ }
     {
         kth(self.along(side, station), self.across(side, station), k)
     }
 }
 
 pub impl<C: Cost> Network<C> for TwinLine as TwinNetwork {
-    ghost meaning = { λ t. twinNet (C·Cost .made) t };
+    ghost meaning = { λ t. twinNet (C·Cost .made) (lineOf t) };
 
     fn stations(&self) -> usize {
         2 * self.count
@@ -225,8 +226,8 @@ pub impl<C: Cost> Network<C> for TwinLine as TwinNetwork {
 
     /// The section that is drawn under this number, if any is.
     fn section(&self, number: usize) -> Option<Section<C::Section>>
-        ensures exact { λ r. ⌜ r ≡ nth (twinNet (C·Cost .made) (now (self .entry)) .sections) number ⌝ }
-        ensures drawn { λ r. ⌜ ((s : Part C·Section) → (r ≡ Some s) ↔ Drawn (C·Cost .made) (now (self .entry)) number s) ⌝ }
+        ensures exact { λ r. ⌜ r ≡ nth (twinNet (C·Cost .made) (lineOf (now (self .entry))) .sections) number ⌝ }
+        ensures drawn { λ r. ⌜ ((s : Part C·Section) → (r ≡ Some s) ↔ Drawn (C·Cost .made) (lineOf (now (self .entry))) number s) ⌝ }
     {
         if number < self.section_count() {
             Some(self.numbered::<C>(number))

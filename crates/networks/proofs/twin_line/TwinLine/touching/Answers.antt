@@ -6,19 +6,20 @@ use Rattle.std.specs.shelf.Maps.{nth}
 use Rattle.amounts.specs.declared.cost.SectionForm.{SectionForm}
 use Rattle.amounts.specs.declared.faults.Side.{Side}
 use Rattle.amounts.specs.declared.faults.Side.the-variants.{Forward, Backward}
-use Rattle.networks.specs.declared.twin_line.TwinLine.{TwinLine}
 use Rattle.networks.specs.Nets.{starts}
-use Rattle.networks.specs.Twin.{along, numbered, endOf, sectionCount}
+use Rattle.networks.specs.Twin.{Line, lineOf, along, numbered, endOf, sectionCount}
 use Rattle.networks.proofs.Hits.{both}
+use Rattle.networks.proofs.Twins.{line-range}
 use Rattle.networks.proofs.twin_line.TwinLine.touching.Needs as need
 
-same : {S : Type 0} (made : SectionForm → S) (t : TwinLine) (side : Side) (station i : ℕ) → starts side station (numbered made t i) ≡ eqb (endOf t side i) station
+same : {S : Type 0} (made : SectionForm → S) (t : Line) (side : Side) (station i : ℕ) → starts side station (numbered made t i) ≡ eqb (endOf t side i) station
 same made t Forward station i = refl
 same made t Backward station i = refl
 
 pub returns : need.returns
 returns g c =
-    let t = c .args .self .now in
+    let t = lineOf (c .args .self .now) in
+    let range = line-range (c .args .self .now) in
     let made = g .C·Cost .made in
     let side = c .args .side in
     let station = c .args .station in
