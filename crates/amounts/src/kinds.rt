@@ -69,7 +69,8 @@ pub impl Cost for Samples as SamplesCost {
     }
 
     fn made(form: SectionForm) -> u32 {
-        form.samples
+        let SectionForm { moves: _, samples } = form;
+        samples
     }
 
     fn shown(a: i64) -> Option<LabelForm> {

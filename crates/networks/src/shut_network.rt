@@ -85,7 +85,8 @@ pub impl<C: Cost, N: Network<C>> Network<C> for ShutIn<N> as ShutInNetwork {
         ensures shut { λ r. ⌜ r ≡ onSome (shutIf (has (keptOf (now (self .entry))) number)) (nth (N·Network .meaning (now (self .entry) .below) .sections) number) ⌝ }
     {
         let mut section = self.below.section(number)?;
-        if self.keeps(number) {
+        let kept = self.keeps(number);
+        if kept {
             section.shut = true;
         }
         Some(section)
