@@ -1,4 +1,3 @@
-pub mod Faults
 pub mod Amount
 pub mod Forms
 pub mod Kinds

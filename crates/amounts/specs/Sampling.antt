@@ -5,8 +5,8 @@ use Prim.Native.Nat.{ℕ, _+_, _*_, _/_, _≤_}
 use lib.Dec.{eqb, leb}
 use Rattle.std.specs.declared.result.Result.{Result}
 use Rattle.std.specs.declared.result.Result.the-variants.{Ok, Err}
-use Rattle.amounts.specs.Faults.{ranged}
-use Rattle.amounts.specs.declared.faults.Fault.{Fault}
+use Rattle.faults.specs.Faults.{ranged}
+use Rattle.faults.specs.declared.Fault.{Fault}
 
 -- at most 8 kilometres
 abbrev pub lengthFits : ℕ → Bool

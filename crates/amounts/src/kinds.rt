@@ -91,7 +91,7 @@ pub impl Cost for Samples as SamplesCost {
 pub struct Moves;
 
 /// An amount in moves and samples, both signed.
-#[derive(Clone, Copy, PartialEq, Eq, Debug)]
+#[derive(Clone, Copy)]
 pub struct MovesLabel {
     pub moves: i64,
     pub samples: i64,

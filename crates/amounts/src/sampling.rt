@@ -1,8 +1,8 @@
 //! How many samples a length of pipe takes.
 ghost use mathlib.Core.Path.{_≡_};
 ghost use Rattle.amounts.specs.Sampling.{lengthFits, rateFits, samplesOf, Covers, OnOk};
-use crate::faults::Fault;
-use crate::faults::out_of_range;
+use faults::Fault;
+use faults::out_of_range;
 
 /// The longest section, in millimetres.
 pub const LONGEST: u64 = 8_000_000;

@@ -10,8 +10,8 @@ use Rattle.std.specs.shelf.Maps.{nth}
 use Rattle.std.specs.declared.option.Option.{Option}
 use Rattle.std.specs.declared.option.Option.the-variants.{Some, None}
 use Rattle.amounts.specs.declared.cost.SectionForm.{SectionForm}
-use Rattle.amounts.specs.declared.faults.Side.{Side}
-use Rattle.amounts.specs.declared.faults.Side.the-variants.{Forward, Backward}
+use Rattle.faults.specs.declared.Side.{Side}
+use Rattle.faults.specs.declared.Side.the-variants.{Forward, Backward}
 use Rattle.networks.specs.declared.section.Section.{Section}
 use Rattle.networks.specs.Nets.{Net, SectionInRange, InRange, numbers, starts}
 use Rattle.networks.specs.Ranges.{onSome}

@@ -4,8 +4,8 @@ use Prim.Native.Nat.{ℕ}
 use lib.ListN.{replicate}
 use Rattle.std.specs.declared.result.Result.{Result}
 use Rattle.amounts.specs.Amount.{Ops}
-use Rattle.amounts.specs.Faults.{ranged}
-use Rattle.amounts.specs.declared.faults.Fault.{Fault}
+use Rattle.faults.specs.Faults.{ranged}
+use Rattle.faults.specs.declared.Fault.{Fault}
 use Rattle.networks.specs.declared.blank.Blank.{Blank}
 use Rattle.networks.specs.declared.estimates.Pair.{Pair}
 use Rattle.networks.specs.Ranges.{onOk, between}

@@ -3,6 +3,3 @@ pub mod Nets
 pub mod Given
 pub mod Blanks
 pub mod Shut
-pub mod Twin
-pub mod Drawn
-pub mod Touching

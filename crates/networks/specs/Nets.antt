@@ -10,8 +10,8 @@ use Rattle.std.specs.shelf.Maps.{nth}
 use Rattle.std.specs.declared.option.Option.the-variants.{Some}
 use Rattle.amounts.specs.Forms.{SectionRange}
 use Rattle.amounts.specs.declared.cost.SectionForm.{SectionForm}
-use Rattle.amounts.specs.declared.faults.Side.{Side}
-use Rattle.amounts.specs.declared.faults.Side.the-variants.{Forward, Backward}
+use Rattle.faults.specs.declared.Side.{Side}
+use Rattle.faults.specs.declared.Side.the-variants.{Forward, Backward}
 use Rattle.networks.specs.declared.section.Section.{Section}
 
 -- stations and sections count from 0; S is what a kind has for a section's amount

@@ -6,10 +6,10 @@ use lib.Dec.{eqb, ltb}
 use lib.ListN.{length, take}
 use Rattle.std.specs.declared.result.Result.{Result}
 use Rattle.std.specs.declared.result.Result.the-variants.{Ok, Err}
-use Rattle.amounts.specs.Faults.{networkFault}
-use Rattle.amounts.specs.declared.faults.Fault.{Fault}
-use Rattle.amounts.specs.declared.faults.Refusal.{Refusal}
-use Rattle.amounts.specs.declared.faults.Refusal.the-variants.{ShutInFull, NoSuchSection}
+use Rattle.faults.specs.Faults.{networkFault}
+use Rattle.faults.specs.declared.Fault.{Fault}
+use Rattle.faults.specs.declared.Refusal.{Refusal}
+use Rattle.faults.specs.declared.Refusal.the-variants.{ShutInFull, NoSuchSection}
 use Rattle.networks.specs.declared.section.Section.{Section}
 use Rattle.networks.specs.declared.shut_in.ShutIn.{ShutIn}
 use Rattle.networks.specs.Nets.{Net}

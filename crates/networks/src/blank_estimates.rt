@@ -5,8 +5,8 @@ use crate::blank::Blank;
 use crate::estimates::Estimates;
 use crate::estimates::Pair;
 use amounts::cost::Cost;
-use amounts::faults::Fault;
-use amounts::faults::out_of_range;
+use faults::Fault;
+use faults::out_of_range;
 
 /// The most stations of a network.
 pub const MOST_STATIONS: usize = 4096;

@@ -1,12 +1,9 @@
 //! Pipe networks and estimates behind questions, and what they mean.
 pub mod blank;
 pub mod blank_estimates;
-pub mod drawing;
 pub mod estimates;
 pub mod lent;
 pub mod network;
 pub mod section;
 pub mod shut_in;
 pub mod shut_network;
-pub mod twin_line;
-pub mod twin_network;

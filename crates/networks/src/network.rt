@@ -2,7 +2,7 @@
 ghost use mathlib.Core.Path.{_≡_};
 ghost use lib.ListN.{length};
 ghost use Rattle.std.specs.shelf.Maps.{nth};
-ghost use Rattle.amounts.specs.declared.faults.Side.the-variants.{Forward, Backward};
+ghost use Rattle.faults.specs.declared.Side.the-variants.{Forward, Backward};
 ghost use Rattle.networks.specs.Nets.{Net, InRange, Roll, starts, starters};
 use crate::section::Section;
 use amounts::cost::Cost;

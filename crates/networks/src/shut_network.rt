@@ -9,9 +9,9 @@ use crate::section::Section;
 use crate::shut_in::ROOM;
 use crate::shut_in::ShutIn;
 use amounts::cost::Cost;
-use amounts::faults::Fault;
-use amounts::faults::Refusal;
-use amounts::faults::network_fault;
+use faults::Fault;
+use faults::Refusal;
+use faults::network_fault;
 
 impl<N> ShutIn<N> {
     /// Shuts nothing yet.

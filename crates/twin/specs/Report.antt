@@ -10,14 +10,14 @@ use Rattle.std.specs.declared.option.Option.{Option}
 use Rattle.std.specs.declared.option.Option.the-variants.{Some, None}
 use Rattle.std.specs.declared.result.Result.{Result}
 use Rattle.std.specs.declared.result.Result.the-variants.{Ok, Err}
-use Rattle.amounts.specs.Faults.{refusedLine}
+use Rattle.faults.specs.Faults.{refusedLine}
 use Rattle.amounts.specs.Kinds.{samplesParts, samplesMade}
 use Rattle.amounts.specs.declared.cost.SectionForm.{SectionForm}
-use Rattle.amounts.specs.declared.faults.Fault.{Fault}
+use Rattle.faults.specs.declared.Fault.{Fault}
 use Rattle.networks.specs.Nets.{Net}
 use Rattle.networks.specs.Ranges.{onSome}
-use Rattle.networks.specs.Twin.{Line, lineDrawn, twinNet}
-use Rattle.networks.specs.declared.drawing.Drawing.{Drawing}
+use Rattle.twinline.specs.Twin.{Line, lineDrawn, twinNet}
+use Rattle.twinline.specs.declared.drawing.Drawing.{Drawing}
 use Rattle.networks.specs.declared.section.Section.{Section}
 use Rattle.twin.specs.declared.asked.Asked.{Asked}
 use Rattle.twin.specs.declared.asked.Kind.{Kind}

@@ -1,7 +1,7 @@
 //! What the words on the command line ask for.
 ghost use mathlib.Core.Path.{_≡_};
 ghost use Rattle.twin.specs.Report.{askedBy};
-use networks::drawing::Drawing;
+use twinline::drawing::Drawing;
 
 /// The kind of cost that the line is worked out in.
 #[derive(Clone, Copy)]

@@ -7,16 +7,16 @@ ghost use Rattle.twin.specs.Report.{headingLine, sectionLine, reportOf, usageL
 use crate::asked::Asked;
 use crate::asked::Kind;
 use amounts::cost::Cost;
-use amounts::faults::Fault;
-use amounts::faults::FaultDisplay;
+use faults::Fault;
+use faults::FaultDisplay;
 use amounts::kinds::Moves;
 use amounts::kinds::MovesCost;
 use amounts::kinds::Samples;
 use amounts::kinds::SamplesCost;
 use networks::network::Network;
 use networks::section::Section;
-use networks::twin_line::TwinLine;
-use networks::twin_network::TwinNetwork;
+use twinline::twin_line::TwinLine;
+use twinline::twin_network::TwinNetwork;
 use std::alloc::Global;
 use std::fmt;
 

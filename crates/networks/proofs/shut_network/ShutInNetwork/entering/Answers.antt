@@ -1,6 +1,6 @@
 use mathlib.Core.Path.{sym, ap, _∙_}
 use Rattle.std.specs.shelf.Maps.{nth}
-use Rattle.amounts.specs.declared.faults.Side.the-variants.{Backward}
+use Rattle.faults.specs.declared.Side.the-variants.{Backward}
 use Rattle.networks.proofs.Rolls.{roll-of}
 use Rattle.networks.proofs.Shutting.{numbers-shut}
 use Rattle.networks.proofs.shut_network.ShutInNetwork.entering.Needs as need

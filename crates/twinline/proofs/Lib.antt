@@ -1,0 +1,4 @@
+pub mod Twins
+pub mod Hits
+pub mod Crossings
+pub mod Drawings

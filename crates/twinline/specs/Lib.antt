@@ -1,0 +1,3 @@
+pub mod Twin
+pub mod Drawn
+pub mod Touching

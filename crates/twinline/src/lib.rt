@@ -1,0 +1,4 @@
+//! A line of two parallel pipes with crossovers, as a network.
+pub mod drawing;
+pub mod twin_line;
+pub mod twin_network;
