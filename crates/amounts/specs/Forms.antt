@@ -1,11 +1,12 @@
 -- The form that amounts have on a page: valve moves and samples.
 use mathlib.Core.Path.{_≡_}
-use mathlib.Core.Bool.{Bool, cond, _&&_}
+use mathlib.Core.Bool.{Bool, cond, not, _&&_, _||_}
 use mathlib.Core.List.{List}
 use Prim.Native.Nat.{ℕ, _≤_, _<_, _^_}
-use lib.Dec.{eqb}
+use lib.Dec.{eqb, ltb}
 use lib.ListN.{length}
 use Rattle.std.specs.shelf.Lists.{All}
+use Rattle.std.specs.Options.{isSome}
 use Rattle.std.specs.declared.option.Option.{Option}
 use Rattle.std.specs.declared.option.Option.the-variants.{Some, None}
 use Rattle.amounts.specs.Amount.{Ops, Le, SectionFit, total}
@@ -50,6 +51,19 @@ pub record LabelLaws {L : Type 0} (o : Ops L) (shown : L → Option LabelForm) (
   pub small : (a : L) (f : LabelForm) → shown a ≡ Some f → o .size a < 2 ^ 44
   pub zero-shown : shown (o .zero) ≡ Some (labelForm 0 0)
 
+abbrev pub sameForm : SectionForm → SectionForm → Bool
+sameForm f g = eqb (f .moves) (g .moves) && eqb (f .samples) (g .samples)
+
+-- Kind 1 has zero moves; any other kind may have some.
+abbrev pub movesFit : ℕ → ℕ → Bool
+movesFit kind moves = not (eqb kind 1) || eqb moves 0
+
+-- Which forms a kind's amounts have, by the kind's byte.
+pub record KindLaws {L S : Type 0} (kind : ℕ) (parts : S → SectionForm) (made : SectionForm → S) (told : LabelForm → Option L) : Type 0 where
+  pub byte : kind < 256
+  pub sections : (f : SectionForm) → sameForm (parts (made f)) f ≡ movesFit kind (f .moves)
+  pub labels : (f : LabelForm) → isSome (told f) ≡ (movesFit kind (f .moves) && ltb (f .samples) (2 ^ 44))
+
 -- Such an amount stands on a page.
 abbrev pub OnPage : {L : Type 0} → (L → Option LabelForm) → L → Type 0
 OnPage shown a = (f : LabelForm) × (shown a ≡ Some f)
@@ -58,9 +72,6 @@ OnPage shown a = (f : LabelForm) × (shown a ≡ Some f)
 abbrev pub TotalsOnPage : {L S : Type 0} → Ops L → (S → L) → (S → SectionForm) → (L → Option LabelForm) → Type 0
 TotalsOnPage {S = S} o worth parts shown =
     (ss : List S) → All (λ s. SectionRange (parts s)) ss → length ss ≤ 4095 → OnPage shown (total o worth ss)
-
-abbrev pub sameForm : SectionForm → SectionForm → Bool
-sameForm f g = eqb (f .moves) (g .moves) && eqb (f .samples) (g .samples)
 
 -- The amount that a page gives a section: absent where the kind has none of this form.
 abbrev pub toldSection : {S : Type 0} → (S → SectionForm) → (SectionForm → S) → SectionForm → Option S

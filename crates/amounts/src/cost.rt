@@ -3,7 +3,7 @@ ghost use mathlib.Core.Path.{_≡_};
 ghost use Prim.Native.Nat.{ℕ};
 ghost use Rattle.std.specs.declared.option.Option.{Option};
 ghost use Rattle.amounts.specs.Amount.{Ops, Laws, SectionFit, computed};
-ghost use Rattle.amounts.specs.Forms.{SectionLaws, LabelLaws, TotalsOnPage, toldSection};
+ghost use Rattle.amounts.specs.Forms.{SectionLaws, LabelLaws, KindLaws, TotalsOnPage, toldSection};
 ghost use Rattle.amounts.specs.declared.cost.SectionForm.{SectionForm};
 ghost use Rattle.amounts.specs.declared.cost.LabelForm.{LabelForm};
 
@@ -56,6 +56,9 @@ pub trait Cost {
     ghost told: { LabelForm → Option Self·Label };
 
     law labels: { LabelLaws ops shown told };
+
+    /// Which forms there are, by the kind's byte.
+    law kinds: { KindLaws kind parts made told };
 
     law totals: { TotalsOnPage ops worth parts shown };
 

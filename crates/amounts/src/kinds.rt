@@ -7,6 +7,8 @@ use crate::cost::LabelForm;
 use crate::cost::SectionForm;
 use crate::limits::MOVES;
 use crate::limits::SAMPLES;
+use crate::limits::exact_difference;
+use crate::limits::exact_sum;
 use crate::limits::fit;
 use crate::limits::in_field;
 
@@ -53,11 +55,19 @@ pub impl Cost for Samples as SamplesCost {
     }
 
     fn sum(a: i64, b: i64) -> i64 {
-        if fit(Self::size(a), Self::size(b)) { a + b } else { Self::ZERO }
+        if fit(Self::size(a), Self::size(b)) {
+            exact_sum(a, b)
+        } else {
+            Self::ZERO
+        }
     }
 
     fn difference(a: i64, b: i64) -> i64 {
-        if fit(Self::size(a), Self::size(b)) { a - b } else { Self::ZERO }
+        if fit(Self::size(a), Self::size(b)) {
+            exact_difference(a, b)
+        } else {
+            Self::ZERO
+        }
     }
 
     fn worth(s: u32) -> i64 {
@@ -144,8 +154,8 @@ pub impl Cost for Moves as MovesCost {
             return Self::ZERO;
         }
         MovesLabel {
-            moves: a.moves + b.moves,
-            samples: a.samples + b.samples,
+            moves: exact_sum(a.moves, b.moves),
+            samples: exact_sum(a.samples, b.samples),
         }
     }
 
@@ -154,8 +164,8 @@ pub impl Cost for Moves as MovesCost {
             return Self::ZERO;
         }
         MovesLabel {
-            moves: a.moves - b.moves,
-            samples: a.samples - b.samples,
+            moves: exact_difference(a.moves, b.moves),
+            samples: exact_difference(a.samples, b.samples),
         }
     }
 

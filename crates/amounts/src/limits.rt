@@ -1,5 +1,7 @@
 //! Limits that every kind of cost shares.
 ghost use mathlib.Core.Path.{_≡_};
+ghost use Prim.Native.Nat.{_+_, _^_, _≤_};
+ghost use lib.IntN.{_+ℤ_, _-ℤ_, natAbs};
 ghost use Rattle.amounts.specs.Amount.{fits};
 ghost use Rattle.amounts.specs.Kinds.{field};
 
@@ -25,4 +27,20 @@ pub fn in_field(a: i64, limit: u64) -> Option<u64>
 {
     let n = u64::try_from(a).ok()?;
     if n < limit { Some(n) } else { None }
+}
+
+/// The sum of two numbers within the limit.
+pub(crate) fn exact_sum(a: i64, b: i64) -> i64
+    requires { ⌜ natAbs a + natAbs b ≤ 2 ^ 60 ⌝ }
+    ensures { λ r. ⌜ r ≡ a +ℤ b ⌝ }
+{
+    a + b
+}
+
+/// The difference of two numbers within the limit.
+pub(crate) fn exact_difference(a: i64, b: i64) -> i64
+    requires { ⌜ natAbs a + natAbs b ≤ 2 ^ 60 ⌝ }
+    ensures { λ r. ⌜ r ≡ a -ℤ b ⌝ }
+{
+    a - b
 }

@@ -3,3 +3,4 @@ pub mod Nets
 pub mod Given
 pub mod Blanks
 pub mod Shut
+pub mod Routes

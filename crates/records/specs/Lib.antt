@@ -1,0 +1,5 @@
+pub mod Bytes
+pub mod Shapes
+pub mod Due
+pub mod Values
+pub mod Layout
