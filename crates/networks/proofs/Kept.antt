@@ -1,15 +1,13 @@
 -- The numbers that a shutIn network keeps: the first `count` of an array.
-use mathlib.Core.Path.{_≡_, refl, sym, ap, _∙_}
+use mathlib.Core.Path.{_≡_, sym, ap, _∙_}
 use mathlib.Core.Bool.{Bool, true, false, _||_}
-use mathlib.Core.List.{List, [], _∷_, _++_}
-use Prim.Native.Nat.{ℕ, zero, suc, _+_, _-_, _<_, _≤_}
-use native.Mathlib.Omega.{arith}
-use lib.Dec.{eqb, ltb}
-use lib.ListN.{length, take, drop, getD, set}
-use Rattle.std.proofs.shelf.Lists.{at-drop-more, at-drop-all, getD-take, length-take-le, take-more-set}
-use Rattle.std.proofs.shelf.Tests.{eq-eqb, ne-eqb, lt-ltb}
-use Rattle.networks.specs.Shut.{has, accepted, shutting}
-use Rattle.networks.specs.Nets.{Net}
+use mathlib.Core.List.{List}
+use Prim.Native.Nat.{ℕ, _+_, _<_, _≤_}
+use lib.Dec.{eqb}
+use lib.ListN.{length, take, drop, getD}
+use Rattle.std.proofs.shelf.Lists.{at-drop-more, at-drop-all, getD-take, length-take-le}
+use Rattle.std.proofs.shelf.Tests.{eq-eqb, ne-eqb}
+use Rattle.networks.specs.Shut.{has}
 
 module _ (xs : List ℕ) (count n : ℕ) (h : count ≤ length xs) where
   -- whether n is at i or later
@@ -29,9 +27,3 @@ module _ (xs : List ℕ) (count n : ℕ) (h : count ≤ length xs) where
 
   pub later-none : (i : ℕ) → count ≤ i → later i ≡ false
   later-none i l = at-drop-all (λ ys. has ys n) (take count xs) i (rw (length-take-le count xs h) l)
-
--- a number that is not kept yet, where there is room
-pub shut-more : {S : Type 0} (net : Net S) (xs : List ℕ) (count n : ℕ) → n < length (net .sections) → count < length xs → (count ≡ 64 → ⊥) → false ≡ has (take count xs) n → accepted (take (count + 1) (set xs count n)) ≡ shutting net (take count xs) n
-shut-more net xs count n there room full new =
-    let few : eqb (length (take count xs)) 64 ≡ false = ne-eqb _ _ (rw (length-take-le count xs (omega arith)) full) in
-    ap accepted (take-more-set xs count n room) ∙ sym (rw (lt-ltb n (length (net .sections)) there, ← new, few))

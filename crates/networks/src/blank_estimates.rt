@@ -1,5 +1,6 @@
 //! The questions of blank estimates.
 ghost use mathlib.Core.Path.{_≡_};
+ghost use lib.Dec.{ltb};
 ghost use Rattle.networks.specs.Blanks.{blankCount, blankAnswer, blankPairs};
 use crate::blank::Blank;
 use crate::estimates::Estimates;
@@ -21,6 +22,13 @@ impl Blank {
         }
         Ok(Blank { count })
     }
+
+    /// Whether there is a pair for the station.
+    fn covers(&self, station: usize) -> bool
+        ensures { λ r. ⌜ r ≡ ltb station (now (self .entry) .count) ⌝ }
+    {
+        station < self.count
+    }
 }
 
 pub impl<C: Cost> Estimates<C> for Blank as BlankEstimates {
@@ -31,7 +39,7 @@ pub impl<C: Cost> Estimates<C> for Blank as BlankEstimates {
     }
 
     fn pair(&self, station: usize) -> Option<Pair<C::Label>> {
-        if station < self.count {
+        if self.covers(station) {
             Some(Pair {
                 forward: C::nought(),
                 backward: C::nought(),

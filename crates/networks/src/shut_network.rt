@@ -1,6 +1,7 @@
 //! Shutting sections, and the questions of a network with some of them shut.
 ghost use mathlib.Core.Path.{_≡_};
-ghost use mathlib.Core.List.{[]};
+ghost use mathlib.Core.List.{[], _∷_, _++_};
+ghost use Prim.Native.Nat.{_<_};
 ghost use Rattle.std.specs.shelf.Maps.{nth};
 ghost use Rattle.networks.specs.Ranges.{onSome};
 ghost use Rattle.networks.specs.Shut.{has, keptOf, shutIn, shutIf, shutting};
@@ -54,9 +55,36 @@ impl<N> ShutIn<N> {
         if self.count == ROOM {
             return Err(network_fault(Refusal::ShutInFull { kept: ROOM }));
         }
+        self.keep(number);
+        Ok(())
+    }
+
+    /// Keeps one number more, where there is room.
+    fn keep(&mut self, number: usize)
+        requires { ⌜ now self .count < 64 ⌝ }
+        ensures kept { λ _. ⌜ keptOf (now (self .exit)) ≡ keptOf (now (self .entry)) ++ (number ∷ []) ⌝ }
+        ensures below { λ _. ⌜ now (self .exit) .below ≡ now (self .entry) .below ⌝ }
+    {
         self.kept[self.count] = number;
         self.count += 1;
-        Ok(())
+    }
+}
+
+/// The section, shut too where it is kept.
+fn shut_if<A>(section: Section<A>, kept: bool) -> Section<A>
+    ensures { λ r. ⌜ r ≡ shutIf kept section ⌝ }
+{
+    let Section {
+        from,
+        to,
+        amount,
+        shut,
+    } = section;
+    Section {
+        from,
+        to,
+        amount,
+        shut: kept || shut,
     }
 }
 
@@ -84,12 +112,8 @@ pub impl<C: Cost, N: Network<C>> Network<C> for ShutIn<N> as ShutInNetwork {
         ensures exact { λ r. ⌜ r ≡ nth (shutIn (keptOf (now (self .entry))) (N·Network .meaning (now (self .entry) .below)) .sections) number ⌝ }
         ensures shut { λ r. ⌜ r ≡ onSome (shutIf (has (keptOf (now (self .entry))) number)) (nth (N·Network .meaning (now (self .entry) .below) .sections) number) ⌝ }
     {
-        let mut section = self.below.section(number)?;
-        let kept = self.keeps(number);
-        if kept {
-            section.shut = true;
-        }
-        Some(section)
+        let section = self.below.section(number)?;
+        Some(shut_if(section, self.keeps(number)))
     }
 
     fn leaving(&self, station: usize, k: usize) -> Option<usize> {

@@ -7,7 +7,7 @@ ghost use Rattle.std.specs.shelf.Maps.{nth};
 ghost use Rattle.std.specs.declared.option.Option.the-variants.{Some};
 ghost use Rattle.amounts.specs.Forms.{sectionForm};
 ghost use Rattle.networks.specs.declared.section.Section.{Section as Part};
-ghost use Rattle.networks.specs.Nets.{starters};
+ghost use Rattle.networks.specs.Nets.{Roll, starts, starters};
 ghost use Rattle.twinline.specs.Twin.{lineOf, lineDrawn, twinNet, numbered as sectionBy, along as alongOf, sectionCount, endOf, openSection};
 ghost use Rattle.networks.specs.Ranges.{onOk, between as inside};
 ghost use Rattle.twinline.specs.Drawn.{Drawn};
@@ -199,7 +199,8 @@ impl TwinLine {
 
     /// The number of the k-th section to which a side comes at the station: one along and one across at most.
     fn touching<C: Cost>(&self, side: Side, station: usize, k: usize) -> Option<usize>
-        ensures { λ r. ⌜ r ≡ nth (starters side (twinNet (C·Cost .made) (lineOf (now (self .entry)))) station) k ⌝ }
+        ensures exact { λ r. ⌜ r ≡ nth (starters side (twinNet (C·Cost .made) (lineOf (now (self .entry)))) station) k ⌝ }
+        ensures roll { λ _. ⌜ Roll (starts side station) (twinNet (C·Cost .made) (lineOf (now (self .entry))) .sections) (starters side (twinNet (C·Cost .made) (lineOf (now (self .entry)))) station) ⌝ }
     {
         kth(self.along(side, station), self.across(side, station), k)
     }

@@ -1,14 +1,10 @@
-use mathlib.Core.Path.{_≡_, sym, ap, _∙_}
-use mathlib.Core.Bool.{Bool}
-use Rattle.std.specs.declared.option.Option.{Option}
+use mathlib.Core.Path.{_≡_, sym, ap, ap₂, _∙_}
 use Rattle.std.specs.declared.option.Option.the-variants.{Some}
 use Rattle.std.specs.shelf.Maps.{nth}
-use Rattle.networks.specs.declared.section.Section.{Section}
 use Rattle.networks.specs.Ranges.{onSome}
 use Rattle.networks.specs.Shut.{has, keptOf, shutIf}
 use Rattle.networks.proofs.Shutting.{nth-shut}
 use Rattle.networks.proofs.shut_network.ShutInNetwork.section.Needs as need
-use Rattle.networks.proofs.shut_network.ShutInNetwork.section.Needs.{then-kept, else-kept}
 
 pub returns-in-Break-section : need.returns-in-Break-section
 returns-in-Break-section g c =
@@ -24,8 +20,5 @@ returns g c =
     let n = c .args .number in
     let ss = g .N·Network .meaning (s .below) .sections in
     let x = c .in-Continue-section .section in
-    let kept : c .if-kept .section ≡ shutIf (has (keptOf s) n) x = elim (c .if-kept .came) [
-        then-kept w ↦ w .section-is ∙ ap (λ b. shutIf b x) (sym (w .if-kept .taken) ∙ c .keeps-kept .ensures)
-      | else-kept w ↦ w .section-is ∙ ap (λ b. shutIf b x) (sym (w .if-kept .left) ∙ c .keeps-kept .ensures) ] in
-    let shut : Some (c .if-kept .section) ≡ onSome (shutIf (has (keptOf s) n)) (nth ss n) = ap Some kept ∙ ap (onSome (shutIf (has (keptOf s) n))) (sym (c .in-Continue-section .was tt) ∙ c .section .ensures .exact) in
+    let shut : Some (c .shut-if .result) ≡ onSome (shutIf (has (keptOf s) n)) (nth ss n) = ap Some (c .shut-if .ensures ∙ ap (λ b. shutIf b x) (c .keeps .ensures)) ∙ ap (onSome (shutIf (has (keptOf s) n))) (sym (c .in-Continue-section .was tt) ∙ c .section .ensures .exact) in
     record { exact = shut ∙ sym (nth-shut (keptOf s) n ss); shut = shut }

@@ -7,7 +7,8 @@ use Rattle.amounts.specs.declared.cost.SectionForm.{SectionForm}
 use Rattle.faults.specs.declared.Side.{Side}
 use Rattle.faults.specs.declared.Side.the-variants.{Forward, Backward}
 use Rattle.networks.specs.Nets.{starts}
-use Rattle.twinline.specs.Twin.{Line, lineOf, along, numbered, endOf, sectionCount}
+use Rattle.networks.proofs.Rolls.{roll-of}
+use Rattle.twinline.specs.Twin.{Line, lineOf, twinNet, along, numbered, endOf, sectionCount}
 use Rattle.twinline.proofs.Hits.{both}
 use Rattle.twinline.proofs.Twins.{line-range}
 use Rattle.twinline.proofs.twin_line.TwinLine.touching.Needs as need
@@ -23,4 +24,7 @@ returns g c =
     let made = g .C·Cost .made in
     let side = c .args .side in
     let station = c .args .station in
-    c .kth .ensures ∙ sym (ap (λ l. nth l (c .args .k)) (both (starts side station) (numbered made t) (endOf t side) station (same made t side station) (2 * along t) (sectionCount t) (c .along .result) (c .across .result) (omega arith) (c .along .ensures) (c .across .ensures)))
+    record {
+      exact = c .kth .ensures ∙ sym (ap (λ l. nth l (c .args .k)) (both (starts side station) (numbered made t) (endOf t side) station (same made t side station) (2 * along t) (sectionCount t) (c .along .result) (c .across .result) (omega arith) (c .along .ensures) (c .across .ensures)));
+      roll = roll-of (starts side station) (twinNet made t .sections);
+    }

@@ -1,0 +1,5 @@
+//! Pages: reading, viewing, writing and retracing them.
+pub mod answer;
+mod check;
+pub mod page_network;
+pub mod view;
