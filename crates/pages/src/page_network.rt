@@ -42,17 +42,17 @@ fn nth_record<R: Record>(bytes: &[u8], from: usize, count: usize, k: usize) -> O
 }
 
 /// The section that a record tells.
-fn section_from<C: Cost>(record: SectionRecord) -> Section<C::Section>
-    ensures { λ r. ⌜ r ≡ sectionFrom C·Cost record ⌝ }
+fn section_from<C: Cost>(body: SectionRecord) -> Section<C::Section>
+    ensures { λ r. ⌜ r ≡ sectionFrom C·Cost body ⌝ }
 {
     Section {
-        from: usize::from(record.from),
-        to: usize::from(record.to),
+        from: usize::from(body.from),
+        to: usize::from(body.to),
         amount: C::made(SectionForm {
-            moves: record.moves,
-            samples: record.samples,
+            moves: body.moves,
+            samples: body.samples,
         }),
-        shut: record.state == 1,
+        shut: body.state == 1,
     }
 }
 
@@ -66,11 +66,11 @@ fn label_from<C: Cost>(moves: u32, samples: u64) -> C::Label
     }
 }
 
-fn pair_from<C: Cost>(record: EstimateRecord) -> Pair<C::Label>
-    ensures { λ r. ⌜ r ≡ pairFrom C·Cost record ⌝ }
+fn pair_from<C: Cost>(body: EstimateRecord) -> Pair<C::Label>
+    ensures { λ r. ⌜ r ≡ pairFrom C·Cost body ⌝ }
 {
     Pair {
-        forward: label_from::<C>(record.forward_moves, record.forward_samples),
-        backward: label_from::<C>(record.backward_moves, record.backward_samples),
+        forward: label_from::<C>(body.forward_moves, body.forward_samples),
+        backward: label_from::<C>(body.backward_moves, body.backward_samples),
     }
 }

@@ -1,2 +1,4 @@
+pub mod Coding
 pub mod Fields
+pub mod Passing
 pub mod Runs
