@@ -1,1 +1,5 @@
+pub mod Accepting
 pub mod Checking
+pub mod Mapped
+pub mod Places
+pub mod Views

@@ -1,9 +1,9 @@
 -- What is answered when a page is read: its records in their order, and nothing after them.
 use mathlib.Core.Bool.{Bool, true, cond, _&&_}
-use mathlib.Core.List.{List, [], _∷_}
+use mathlib.Core.List.{List, [], _∷_, _++_}
 use Prim.Native.Nat.{ℕ, _+_, _-_, _*_}
 use lib.Dec.{eqb, ltb}
-use lib.ListN.{length, getD, drop}
+use lib.ListN.{length, getD, drop, replicate}
 use Rattle.std.specs.declared.result.Result.{Result}
 use Rattle.std.specs.declared.result.Result.the-variants.{Ok, Err}
 use Rattle.faults.specs.declared.Fault.{Fault}
@@ -81,3 +81,7 @@ headed a (Err f) = Err f
 abbrev pub allBytes : List ℕ → Bool
 allBytes [] = true
 allBytes (b ∷ bs) = ltb b 256 && allBytes bs
+
+-- a page of one station with blank estimates
+abbrev pub blankPage : List ℕ
+blankPage = 0x48 ∷ 1 ∷ 0 ∷ 1 ∷ 0 ∷ 0 ∷ 0 ∷ 0 ∷ 0 ∷ 0 ∷ 0x45 ∷ (replicate 20 0 ++ (0x5A ∷ []))

@@ -10,6 +10,8 @@ use Rattle.std.specs.declared.option.Option.{Option}
 use Rattle.std.specs.declared.option.Option.the-variants.{Some, None}
 use Rattle.amounts.specs.declared.cost.Cost as cost
 use Rattle.amounts.specs.Forms.{sectionForm, labelForm}
+use Rattle.faults.specs.declared.Side.{Side}
+use Rattle.faults.specs.declared.Side.the-variants.{Forward, Backward}
 use Rattle.networks.specs.declared.section.Section.{Section}
 use Rattle.networks.specs.declared.estimates.Pair.{Pair}
 use Rattle.networks.specs.Nets.{Net}
@@ -55,6 +57,11 @@ toOf (Some s) = s .to
 abbrev pub orElse : {A : Type 0} → A → Option A → A
 orElse a None = a
 orElse a (Some b) = b
+
+-- the station at which a side comes to a section
+abbrev pub startOf : Side → SectionRecord → ℕ
+startOf Forward r = r .from
+startOf Backward r = r .to
 
 module _ {C L S : Type 0} (c : cost.Ghosts C L S) where
   abbrev pub sectionFrom : SectionRecord → Section S

@@ -2,4 +2,5 @@
 pub mod answer;
 mod check;
 pub mod page_network;
+pub mod read;
 pub mod view;
