@@ -1,11 +1,12 @@
 -- What an accepted page holds, whatever the kind it was read for.
 use mathlib.Core.Path.{_≡_, refl, sym, ap, _∙_}
-use mathlib.Core.Bool.{Bool, true, false, _&&_}
+use mathlib.Core.Bool.{Bool, true, false, cond, _&&_}
 use mathlib.Core.List.{List, [], _∷_, map}
 use Prim.Native.Nat.{ℕ, zero, suc, _+_, _-_, _*_, _^_, _<_, _≤_}
 use native.Mathlib.Omega.{arith}
-use lib.Dec.{eqb, leb, ltb, lit<, lit≤}
+use lib.Dec.{eqb, leb, ltb}
 use lib.ListN.{length, getD, drop, length-drop}
+use lib.Seq.{drop-drop}
 use Rattle.std.specs.Results.{isOk}
 use Rattle.std.specs.shelf.Lists.{All}
 use Rattle.std.specs.declared.option.Option.{Option}
@@ -17,10 +18,9 @@ use Rattle.std.proofs.shelf.Lists.{length-map}
 use Rattle.std.proofs.shelf.Tests.{false≢true, and-parts, eqb-true, ltb-true, leb-true, lt-ltb}
 use Rattle.faults.specs.declared.Fault.{Fault}
 use Rattle.records.specs.Bytes.{Bytes}
-use Rattle.records.specs.Shapes.{ShapeLaws, decodedRun}
+use Rattle.records.specs.Shapes.{decoded, decodedRun}
 use Rattle.records.specs.Due.{andThen, dueRecord, dueRun}
-use Rattle.records.specs.Layout.{headerShape, sectionShape, estimateShape}
-use Rattle.records.proofs.Fields.{placed-all}
+use Rattle.records.specs.Layout.{headerShape, sectionShape, estimateShape, answerShape, stepShape}
 use Rattle.records.proofs.Passing.{Stands, due-stands, RunStands, run-stands, run-fits, length-decodedRun}
 use Rattle.amounts.specs.Forms.{SectionRange, LabelRange, LabelLaws, OnPage, sectionForm, labelForm}
 use Rattle.amounts.specs.declared.cost.Cost as cost
@@ -29,12 +29,14 @@ use Rattle.networks.specs.Nets.{SectionInRange, InRange}
 use Rattle.networks.specs.Given.{PairInRange, GivenInRange}
 use Rattle.records.specs.declared.limits.Limits.{Limits}
 use Rattle.records.specs.declared.kinds.SectionRecord.{SectionRecord}
+use Rattle.records.specs.declared.kinds.AnswerRecord.{AnswerRecord}
 use Rattle.records.specs.declared.kinds.EstimateRecord.{EstimateRecord}
 use Rattle.records.specs.Bytes.{Fits}
 use Rattle.records.specs.Values.{labelFits}
 use Rattle.amounts.specs.Forms.{movesFit}
 use Rattle.pages.specs.Content.{orElse, sectionFrom, labelFrom, pairFrom, netOf, pairsOf}
-use Rattle.pages.specs.Checks.{headed, headerOf, sectionBytes, estimateBytes, answerBytes, limitsFor, limitsOf, dueAnswer, checkPage, allBytes}
+use Rattle.pages.proofs.Forming.{section-laws, estimate-laws, step-laws}
+use Rattle.pages.specs.Checks.{headed, headerOf, sectionBytes, estimateBytes, answerBytes, hasAnswer, stepBytes, stepCount, limitsFor, limitsOf, dueEnd, dueAnswer, checkPage, allBytes}
 
 -- Bytes ----------------------------------------------------------------------------------------
 
@@ -64,15 +66,6 @@ then-second (Ok a) s e = e
 then-second (Err f) s e = absurd (false≢true e)
 
 -- The parts of an accepted page ----------------------------------------------------------------
-
-header-laws : ShapeLaws headerShape
-header-laws = record { byte = lit< tt; short = lit≤ tt; of-fields = λ r. refl; fields-of = placed-all 5 }
-
-section-laws : ShapeLaws sectionShape
-section-laws = record { byte = lit< tt; short = lit≤ tt; of-fields = λ r. refl; fields-of = placed-all 5 }
-
-estimate-laws : ShapeLaws estimateShape
-estimate-laws = record { byte = lit< tt; short = lit≤ tt; of-fields = λ r. refl; fields-of = placed-all 4 }
 
 pub record Accepted (kind : ℕ) (bs : List ℕ) : Type 0 where
   pub header : Stands headerShape (limitsFor kind) bs (headerOf bs)
@@ -128,6 +121,44 @@ module _ (kind : ℕ) (bs : List ℕ) (a : Accepted kind bs) where
 
   pub estimates-there : 10 + 12 * headerOf bs .sections + 21 * headerOf bs .stations ≤ length bs
   estimates-there = omega (arith, a .header .fits, a .sections .fits, a .estimates .fits, length-drop 10 bs, length-drop (12 * headerOf bs .sections) (sectionBytes bs))
+
+-- where an answer stands, by its offset
+pub answer-place : (bs : List ℕ) → drop (10 + 12 * headerOf bs .sections + 21 * headerOf bs .stations) bs ≡ answerBytes bs
+answer-place bs =
+    let n = headerOf bs .sections in
+    sym (ap (drop (21 * headerOf bs .stations)) (drop-drop (12 * n) 10 bs) ∙ drop-drop (21 * headerOf bs .stations) (10 + 12 * n) bs)
+
+-- an answer that is there is all there, with its steps
+pub record Answered (limits : Limits) (rest : List ℕ) : Type 0 where
+  pub answer : Stands answerShape limits rest (decoded answerShape rest)
+  pub steps : RunStands stepShape limits (stepCount rest) (stepBytes rest)
+
+pub answered : (limits : Limits) (len : ℕ) (rest : List ℕ) → Bytes rest → hasAnswer rest ≡ true → isOk (dueAnswer limits len rest) ≡ true → Answered limits rest
+answered limits len rest all there ok =
+    let first = dueRecord answerShape limits len rest in
+    let steps = dueRun stepShape limits len (stepCount rest) (stepBytes rest) in
+    let ends = dueEnd limits len (drop (13 * stepCount rest) (stepBytes rest)) in
+    let ok₁ : isOk (andThen first (andThen steps ends)) ≡ true = ap (λ b. isOk (cond b (andThen first (andThen steps ends)) (dueEnd limits len rest))) (sym there) ∙ ok in
+    let p = ok-is first (then-first first (andThen steps ends) ok₁) in
+    let q = ok-is steps (then-first steps ends (then-second first (andThen steps ends) ok₁)) in
+    let stands = due-stands answerShape limits len rest (p .0) (p .1) in
+    record {
+      answer = record { fits = stands .fits; kinded = stands .kinded; is = refl; good = stands .good };
+      steps = run-stands stepShape step-laws limits len (stepCount rest) (stepBytes rest) (bytes-drop 20 rest all) (q .1) }
+
+-- the answer's record, or that there is none
+pub answer-there : (bs rest : List ℕ) (r : Option AnswerRecord) → rest ≡ answerBytes bs → hasAnswer rest ≡ true → r ≡ Some (decoded answerShape rest) → r ≡ cond (hasAnswer (answerBytes bs)) (Some (decoded answerShape (answerBytes bs))) None
+answer-there bs rest r e h i =
+    i ∙ ap (λ b. cond b (Some (decoded answerShape rest)) None) (sym h) ∙ ap (λ l. cond (hasAnswer l) (Some (decoded answerShape l)) None) e
+
+pub answer-absent : (bs rest : List ℕ) → rest ≡ answerBytes bs → hasAnswer rest ≡ false → None ≡ cond (hasAnswer (answerBytes bs)) (Some (decoded answerShape (answerBytes bs))) None
+answer-absent bs rest e h =
+    ap (λ b. cond b (Some (decoded answerShape rest)) None) (sym h) ∙ ap (λ l. cond (hasAnswer l) (Some (decoded answerShape l)) None) e
+
+-- no byte is no answer
+pub empty-none : (rest : List ℕ) → length rest < 1 → hasAnswer rest ≡ false
+empty-none [] h = refl
+empty-none (b ∷ rest) h = absurd (omega arith)
 
 -- The meanings are in range ----------------------------------------------------------------------
 

@@ -1,5 +1,9 @@
 pub mod Accepting
+pub mod Alone
+pub mod Answers
 pub mod Checking
+pub mod Forming
 pub mod Mapped
 pub mod Places
+pub mod Returning
 pub mod Views

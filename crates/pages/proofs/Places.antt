@@ -19,7 +19,7 @@ room from size count k len h l =
     let m : size * (k + 1) ≤ size * count = mul-le-mul-left size (omega arith) in
     omega (arith, mul-add size k 1, mul-one size)
 
-front-is : {R : Type 0} (shape : Shape R) (r : Option R) (bs : List ℕ) → Cases r (length bs < sizeOf shape) (λ x. (sizeOf shape ≤ length bs) × (x ≡ decoded shape bs)) → sizeOf shape ≤ length bs → r ≡ Some (decoded shape bs)
+pub front-is : {R : Type 0} (shape : Shape R) (r : Option R) (bs : List ℕ) → Cases r (length bs < sizeOf shape) (λ x. (sizeOf shape ≤ length bs) × (x ≡ decoded shape bs)) → sizeOf shape ≤ length bs → r ≡ Some (decoded shape bs)
 front-is shape None bs h l = absurd (omega arith)
 front-is shape (Some x) bs h l = ap Some (h .1)
 

@@ -1,3 +1,4 @@
 pub mod Checks
 pub mod Content
 pub mod Encoding
+pub mod Again

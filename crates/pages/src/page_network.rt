@@ -7,7 +7,7 @@ ghost use Rattle.records.specs.Layout.{sectionShape, estimateShape};
 ghost use Rattle.records.specs.Shapes.{sizeOf, decodedRun};
 ghost use Rattle.networks.specs.Nets.{Roll, starts, starters};
 ghost use Rattle.pages.specs.Checks.{headerOf, sectionBytes, estimateBytes};
-ghost use Rattle.pages.specs.Content.{startOf, sectionFrom, labelFrom, pairFrom, netOf, pairsOf};
+ghost use Rattle.pages.specs.Content.{startOf, fromOf, toOf, sectionFrom, labelFrom, pairFrom, netOf, pairsOf};
 use crate::view::PageView;
 use amounts::cost::Cost;
 use amounts::cost::LabelForm;
@@ -25,7 +25,7 @@ use records::kinds::SectionRecord;
 use records::record::Record;
 
 /// The k-th of so many records from an offset on.
-fn nth_record<R: Record>(bytes: &[u8], from: usize, count: usize, k: usize) -> Option<R>
+pub(crate) fn nth_record<R: Record>(bytes: &[u8], from: usize, count: usize, k: usize) -> Option<R>
     requires { ⌜ from + sizeOf (R·Record .shape) * count ≤ length (now bytes) ⌝ }
     ensures { λ r. ⌜ r ≡ nth (decodedRun (R·Record .shape) count (drop from (now (bytes .entry)))) k ⌝ }
 {
@@ -51,7 +51,7 @@ fn section_from<C: Cost>(body: SectionRecord) -> Section<C::Section>
 }
 
 /// The amount that moves and samples tell, or zero.
-fn label_from<C: Cost>(moves: u32, samples: u64) -> C::Label
+pub(crate) fn label_from<C: Cost>(moves: u32, samples: u64) -> C::Label
     ensures { λ r. ⌜ r ≡ labelFrom C·Cost moves samples ⌝ }
 {
     match C::told(LabelForm { moves, samples }) {
@@ -88,6 +88,16 @@ impl<C: Cost> PageView<'_, C> {
             }
         }
         None
+    }
+
+    /// Where a section goes from and to; 0 where there is none.
+    pub(crate) fn ends(&self, number: usize) -> (usize, usize)
+        ensures { λ r. ⌜ r ≡ (fromOf (nth (netOf C·Cost (now (self .entry) .bytes .now) .sections) number), toOf (nth (netOf C·Cost (now (self .entry) .bytes .now) .sections) number)) ⌝ }
+    {
+        match self.section_record(number) {
+            Some(body) => (usize::from(body.from), usize::from(body.to)),
+            None => (0, 0),
+        }
     }
 
     fn section_record(&self, number: usize) -> Option<SectionRecord>
