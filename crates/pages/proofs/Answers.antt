@@ -11,14 +11,16 @@ use Rattle.std.specs.declared.option.Option.{Option}
 use Rattle.std.specs.declared.option.Option.the-variants.{Some, None}
 use Rattle.std.proofs.shelf.Lists.{length-map}
 use Rattle.amounts.specs.declared.cost.Cost as cost
+use Rattle.networks.specs.Ranges.{onSome}
 use Rattle.records.specs.declared.kinds.AnswerRecord.{AnswerRecord}
 use Rattle.records.specs.declared.kinds.StepRecord.{StepRecord}
 use Rattle.records.specs.Layout.{answerShape, stepShape}
 use Rattle.records.specs.Shapes.{decoded, decodedRun}
 use Rattle.records.proofs.Passing.{length-decodedRun}
+use Rattle.pages.specs.declared.answer.Filed.{Filed}
 use Rattle.pages.specs.Checks.{headerOf, answerBytes, hasAnswer, stepBytes}
 use Rattle.pages.proofs.Accepting.{answer-place}
-use Rattle.pages.specs.Content.{Meant, meantBy, stepFrom, netOf, answerOf}
+use Rattle.pages.specs.Content.{Meant, filedBy, meantBy, stepFrom, netOf, answerOf}
 
 some-told : {X : Type 0} (b : Bool) (x a : X) → Some a ≡ cond b (Some x) None → (b ≡ true) × (a ≡ x)
 some-told true x a e = (refl, cc)
@@ -61,3 +63,12 @@ module _ {C L S : Type 0} (c : cost.Ghosts C L S) (bs : List ℕ) where
   meaning-steps a =
       let run = decodedRun stepShape (a .steps) (stepBytes (answerBytes bs)) in
       length-map run (stepFrom c (netOf c bs .sections)) ∙ length-decodedRun stepShape (a .steps) (stepBytes (answerBytes bs))
+
+-- the answer behind what a view tells of it
+pub filed-some : {L : Type 0} (o : Option (Meant L)) (f : Filed L) → Some f ≡ onSome filedBy o → (m : Meant L) × (o ≡ Some m) × (f ≡ filedBy m)
+filed-some None f e = let z : _≡_ {A = ℕ} 0 1 = cc in absurd (omega arith)
+filed-some (Some m) f e = (m, refl, cc)
+
+pub filed-none : {L : Type 0} (o : Option (Meant L)) → None ≡ onSome filedBy o → o ≡ None
+filed-none None e = refl
+filed-none (Some m) e = let z : _≡_ {A = ℕ} 0 1 = cc in absurd (omega arith)

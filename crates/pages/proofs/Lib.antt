@@ -7,3 +7,6 @@ pub mod Mapped
 pub mod Places
 pub mod Returning
 pub mod Views
+pub mod Walking
+pub mod Routing
+pub mod Retold

@@ -25,6 +25,7 @@ use Rattle.pages.specs.declared.answer.Outcome.{Outcome}
 use Rattle.pages.specs.declared.answer.Outcome.the-variants.{Found, NoRoute}
 use Rattle.pages.specs.declared.answer.Step.{Step}
 use Rattle.pages.specs.declared.answer.Filed.{Filed}
+use Rattle.pages.specs.declared.answer.Answer.{Answer}
 use Rattle.pages.specs.Checks.{headerOf, sectionBytes, estimateBytes, answerBytes, hasAnswer, stepBytes}
 
 -- an answer: the run, how it ended, the cost, the stations taken, and the steps
@@ -101,10 +102,18 @@ module _ {C L S : Type 0} (c : cost.Ghosts C L S) where
   abbrev pub contentOf : List ℕ → Content L S
   contentOf bs = record { network = netOf bs; estimates = pairsOf bs; answer = answerOf bs }
 
+-- what an answer that is put in means
+abbrev pub meantOf : {L : Type 0} → Answer L → Meant L
+meantOf a = record { run = a .run; outcome = a .outcome; cost = a .cost; taken = a .taken; steps = a .steps .now }
+
 -- what a view tells of an answer at once
 abbrev pub filedBy : {L : Type 0} → Meant L → Filed L
 filedBy m = record { run = m .run; outcome = m .outcome; cost = m .cost; taken = m .taken; steps = length (m .steps) }
 
+-- the steps of an answer; none where there is no answer
+abbrev pub stepsIn : {L : Type 0} → Option (Meant L) → List (Step L)
+stepsIn None = []
+stepsIn (Some m) = m .steps
+
 abbrev pub stepIn : {L : Type 0} → Option (Meant L) → ℕ → Option (Step L)
-stepIn None k = None
-stepIn (Some m) k = nth (m .steps) k
+stepIn o k = nth (stepsIn o) k

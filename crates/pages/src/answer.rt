@@ -25,3 +25,13 @@ pub struct Filed<L> {
     pub taken: usize,
     pub steps: usize,
 }
+
+/// An answer to be written, with its steps in a lent list.
+#[derive(Clone, Copy)]
+pub struct Answer<'a, L> {
+    pub run: u32,
+    pub outcome: Outcome,
+    pub cost: L,
+    pub taken: usize,
+    pub steps: &'a [Step<L>],
+}

@@ -4,4 +4,5 @@ mod check;
 pub mod page_answer;
 pub mod page_network;
 pub mod read;
+pub mod retrace;
 pub mod view;
