@@ -3,10 +3,13 @@ pub mod Alone
 pub mod Answers
 pub mod Checking
 pub mod Forming
+pub mod Holding
 pub mod Mapped
+pub mod Overlays
 pub mod Places
+pub mod Retold
 pub mod Returning
+pub mod Routing
 pub mod Views
 pub mod Walking
-pub mod Routing
-pub mod Retold
+pub mod Wrote

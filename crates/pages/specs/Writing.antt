@@ -1,10 +1,11 @@
 -- What is answered when a page is written, and what the page then holds.
 use mathlib.Core.Bool.{Bool, true, false, cond, _&&_}
 use mathlib.Core.List.{List, [], _∷_, _++_}
-use Prim.Native.Nat.{ℕ, _+_, _-_, _*_, _^_, min}
+use Prim.Native.Nat.{ℕ, _+_, _-_, _*_, _^_, _<_, min}
 use lib.Dec.{eqb, leb, ltb}
 use lib.ListN.{length, drop}
 use Rattle.std.specs.Options.{isSome}
+use Rattle.std.specs.shelf.Lists.{All}
 use Rattle.std.specs.shelf.Maps.{nth}
 use Rattle.std.specs.declared.option.Option.{Option}
 use Rattle.std.specs.declared.option.Option.the-variants.{Some, None}
@@ -15,13 +16,20 @@ use Rattle.faults.specs.declared.Refusal.{Refusal}
 use Rattle.faults.specs.declared.Refusal.the-variants.{EstimateCount, PageTooShort, FieldOutOfRange}
 use Rattle.amounts.specs.declared.cost.Cost as cost
 use Rattle.networks.specs.declared.section.Section.{Section}
+use Rattle.networks.specs.declared.estimates.Pair.{Pair}
 use Rattle.networks.specs.Nets.{Net}
+use Rattle.networks.specs.Ranges.{onSome}
 use Rattle.records.specs.Due.{pageFault}
 use Rattle.pages.specs.declared.answer.Outcome.{Outcome}
 use Rattle.pages.specs.declared.answer.Outcome.the-variants.{Found, NoRoute}
 use Rattle.pages.specs.declared.answer.Step.{Step}
-use Rattle.pages.specs.Content.{Meant, Content}
+use Rattle.pages.specs.declared.answer.Answer.{Answer}
+use Rattle.pages.specs.Content.{Meant, Content, meantOf}
 use Rattle.pages.specs.Encoding.{formOf, encode}
+
+-- what is put in: a network, estimates, and perhaps an answer with its steps in a lent list
+abbrev pub contentBy : {L S : Type 0} → Net S → List (Pair L) → Option (Answer L) → Content L S
+contentBy net estimates answer = record { network = net; estimates = estimates; answer = onSome meantOf answer }
 
 -- the bytes of an answer with so many steps, or of none
 abbrev pub answerSize : {L : Type 0} → Option (Meant L) → ℕ
@@ -34,6 +42,16 @@ placed n = min n (2 ^ 64 - 1)
 
 abbrev pub needed : {L S : Type 0} → Content L S → ℕ
 needed x = placed (10 + 12 * length (x .network .sections) + 21 * length (x .estimates) + answerSize (x .answer) + 1)
+
+-- a run is a machine number
+abbrev pub RunFits : {L : Type 0} → Option (Meant L) → Type 0
+RunFits None = Unit {0}
+RunFits (Some m) = m .run < 2 ^ 32
+
+-- an answer whose numbers have two bytes each
+abbrev pub Short : {L : Type 0} → Option (Meant L) → Type 0
+Short None = Unit {0}
+Short (Some m) = (m .taken < 2 ^ 16) × (length (m .steps) < 2 ^ 16) × All (λ s. s .section < 2 ^ 16) (m .steps)
 
 module _ {C L S : Type 0} (c : cost.Ghosts C L S) where
   -- the section is there, with these ends
