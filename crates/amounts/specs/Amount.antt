@@ -1,5 +1,5 @@
 -- Amounts: the operations that a kind of cost gives, without limit, and their laws; and what is computed of them.
-use Rattle.std.specs.Prelude.{◌≡◌, ℕ, ◌+◌, ◌^◌, ◌<◌, ◌≤◌, Bool, true, cond, leb, ◌⊎◌, List, [], ◌∷◌, nat_le}
+use Rattle.std.specs.Prelude.{◌≡◌, ℕ, ◌+◌, ◌^◌, ◌<◌, ◌≤◌, Bool, true, cond, ◌⊎◌, List, [], ◌∷◌, nat_le}
 
 pub record Ops (L : Type 0) : Type 0 where
   pub zero : L

@@ -19,7 +19,7 @@ both (Some m) (Some s) = Some (label_form m s)
 -- Samples ------------------------------------------------------------------------------------
 
 abbrev pub samples : Ops ℤ
-samples = record { zero = pos 0; plus = ◌+ℤ◌; minus = ◌-ℤ◌; leb = le_z; size = unsigned_abs }
+samples = record { zero = pos 0; plus = ◌+ℤ◌; minus = ◌-ℤ◌; leb = int_le; size = unsigned_abs }
 
 abbrev pub samples_parts : ℕ → SectionForm
 samples_parts s = section_form 0 s

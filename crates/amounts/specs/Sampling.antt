@@ -1,5 +1,5 @@
 -- How many samples a length of pipe takes.
-use Rattle.std.specs.Prelude.{ℕ, ◌+◌, ◌*◌, ◌/◌, ◌≤◌, Bool, ◌||◌, List, [], ◌∷◌, Ok, Err, Result, ◌==◌, nat_le}
+use Rattle.std.specs.Prelude.{ℕ, ◌+◌, ◌*◌, ◌/◌, ◌≤◌, Bool, ◌||◌, [], ◌∷◌, Ok, Err, Result, ◌==◌, nat_le}
 use Rattle.faults.specs.Faults.{ranged}
 use Rattle.faults.specs.declared.Fault.{Fault}
 

@@ -1,4 +1,6 @@
 //! Kinds of cost and their amounts.
+#![tactic(auto)]
+
 pub mod cost;
 pub mod kinds;
 pub mod limits;

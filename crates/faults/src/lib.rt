@@ -1,4 +1,6 @@
 //! What a call that is turned down says: which refusal, which layer, and where.
+#![tactic(auto)]
+
 ghost use Rattle.std.specs.Prelude.{◌≡◌, Some};
 ghost use Rattle.faults.specs.Faults.{number_of, place_of, side_number, network_fault, refused_line};
 ghost use Rattle.faults.specs.declared.Refusal.TheVariants.{ParameterOutOfRange};
