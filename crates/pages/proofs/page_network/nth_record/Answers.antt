@@ -20,4 +20,4 @@ overflow-add-from g c =
 pub returns : goal.returns
 returns g c =
     let bytes = c.args.bytes.now in
-    nth_there g.R.Record.shape bytes c.args.from c.args.count c.args.k c.front.result _ c.if-k-count.false c.requires (c.bytes-from.ensures ∙ ap (λ n. drop (c.args.from + n * c.args.k) bytes) c.size.ensures) c.front.ensures
+    nth_there g.R.Record.shape bytes c.args.from c.args.count c.args.k c.front.result _ c.if-k-count.false c.requires (c.bytes_from.ensures ∙ ap (λ n. drop (c.args.from + n * c.args.k) bytes) c.size.ensures) c.front.ensures

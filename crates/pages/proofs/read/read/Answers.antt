@@ -6,18 +6,18 @@ use Rattle.contents.specs.Encoding.{PageLaws}
 use Rattle.contents.proofs.Alone.{again_of}
 use Rattle.pages.proofs.read.read.Goals as goal
 
-pub returns-in-err-header : goal.returns-in-err-header
-returns-in-err-header g c =
+pub returns-in_err-header : goal.returns-in_err-header
+returns-in_err-header g c =
     let bs = c.args.page.now in
     let kind = g.C.Cost.kind in
-    let p = err_from_is_err_and c.from-residual.result c.from-residual.ensures.1 in
-    rw (p.1, p.2) (record { answer = headed_err (header_of bs) (check_page kind bs) _ (c.in-err-header.ensures ∙ ap (λ k. headed (header_of bs) (check_page k bs)) c.kind-byte.ensures); filled = refl; again = tt })
+    let p = err_from_is_err_and c.from_residual.result c.from_residual.ensures.1 in
+    rw (p.1, p.2) (record { answer = headed_err (header_of bs) (check_page kind bs) _ (c.in_err-header.ensures ∙ ap (λ k. headed (header_of bs) (check_page k bs)) c.kind_byte.ensures); filled = refl; again = tt })
 
 pub invariant-of-view : goal.invariant-of-view
 invariant-of-view g c =
     let bs = c.args.page.now in
     let kind = g.C.Cost.kind in
-    let told = headed_ok _ (header_of bs) (check_page kind bs) (c.in-ok-header.ensures ∙ ap (λ k. headed (header_of bs) (check_page k bs)) c.kind-byte.ensures) in
+    let told = headed_ok _ (header_of bs) (check_page kind bs) (c.in_ok-header.ensures ∙ ap (λ k. headed (header_of bs) (check_page k bs)) c.kind_byte.ensures) in
     let same = kind_is kind bs told.1 in
     (test_from_each bs (λ i. omega (arith, c.type-inv.page i)), (told.0, (ap (λ h. is_ok (check_page h.kind bs)) told.0 ∙ ap (λ k. is_ok (check_page k bs)) same ∙ ap is_ok told.1, tt)))
 
@@ -25,7 +25,7 @@ pub returns : goal.returns
 returns g c =
     let bs = c.args.page.now in
     let kind = g.C.Cost.kind in
-    let told = headed_ok _ (header_of bs) (check_page kind bs) (c.in-ok-header.ensures ∙ ap (λ k. headed (header_of bs) (check_page k bs)) c.kind-byte.ensures) in
+    let told = headed_ok _ (header_of bs) (check_page kind bs) (c.in_ok-header.ensures ∙ ap (λ k. headed (header_of bs) (check_page k bs)) c.kind_byte.ensures) in
     let all = bytes_from_test bs (test_from_each bs (λ i. omega (arith, c.type-inv.page i))) in
     let laws : PageLaws g.C.Cost = record { sections = g.met.C.Cost.sections; labels = g.met.C.Cost.labels; kinds = g.met.C.Cost.kinds } in
     record { answer = sym told.1; filled = refl; again = again_of g.C.Cost laws bs all told.1 }

@@ -4,12 +4,12 @@ use Rattle.twin.proofs.Lines.{lines_none, lines_more, lines_all}
 use Rattle.twin.proofs.report.report.Goals as goal
 
 pub loop-number-init : goal.loop-number-init
-loop-number-init g c = lines_none g.C.Cost.parts (g.N.Network.meaning c.args.net.now) _ _ c.new-out.ensures.bytes c.in-ok-heading.ensures
+loop-number-init g c = lines_none g.C.Cost.parts (g.N.Network.meaning c.args.net.now) _ _ c.new-out.ensures.bytes c.in_ok-heading.ensures
 
 pub loop-number-preserved : goal.loop-number-preserved
 loop-number-preserved g c =
     let ss = (g.N.Network.meaning c.args.net.now).sections in
-    lines_more g.C.Cost.parts ss c.loop-number.number c.in-Some.section _ _ c.in-Some.ensures.exact c.in-ok-section-line.ensures ∙ c.loop-number.invariant
+    lines_more g.C.Cost.parts ss c.loop-number.number c.in-Some.section _ _ c.in-Some.ensures.exact c.in_ok-section_line.ensures ∙ c.loop-number.invariant
 
 pub returns-in-default : goal.returns-in-default
 returns-in-default g c =

@@ -10,6 +10,6 @@ returns g c =
     let laws = g.met.R.Record.lawful in
     let body = c.args.body.now in
     let n = length-encoded shape laws body in
-    overlay_part c.args.page.now c.args.at _ c.copy-from-slice.new.self (encoded shape body)
-    (c.copy-from-slice.ensures.after ∙ padded_front shape laws body _ c.padded-bytes.result c.padded-bytes.ensures (omega arith))
+    overlay_part c.args.page.now c.args.at _ c.copy_from_slice.new.self (encoded shape body)
+    (c.copy_from_slice.ensures.after ∙ padded_front shape laws body _ c.padded-bytes.result c.padded-bytes.ensures (omega arith))
     (omega arith)

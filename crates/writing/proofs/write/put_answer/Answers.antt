@@ -20,8 +20,8 @@ returns-in-default g c =
       page = none_put g.C.Cost c.args.page.now c.args.at o none;
     }
 
-pub put-run-requires : goal.put-run-requires
-put-run-requires g c =
+pub put_run-requires : goal.put_run-requires
+put_run-requires g c =
     let o = on_some meant_of c.args.answer.now in
     let some : o ≡ Some (meant_of c.in-Some.answer) = ap (on_some meant_of) c.in-Some.is in
     let steps = c.in-Some.answer.steps.now in
@@ -38,7 +38,7 @@ returns g c =
     let size = ap answer_size some in
     record {
       end = omega arith;
-      run = subst RunFits (sym some) c.answer-body.ensures.run;
+      run = subst RunFits (sym some) c.answer_body.ensures.run;
       page = some_put g.C.Cost c.args.page.now c.args.at o m some
-          (c.put.ensures ∙ ap (λ a. overlay c.args.page.now c.args.at (encoded answer_shape a)) c.answer-body.ensures.body) c.put-run.ensures (omega arith);
+          (c.put.ensures ∙ ap (λ a. overlay c.args.page.now c.args.at (encoded answer_shape a)) c.answer_body.ensures.body) c.put_run.ensures (omega arith);
     }

@@ -11,14 +11,14 @@ use Rattle.contents.proofs.Holding.{answer_valid, short}
 use Rattle.contents.proofs.Wrote.{page_put, write-refused, write_left, write_back}
 use Rattle.writing.proofs.write.put_page.Goals as goal
 
-pub put-run-requires : goal.put-run-requires
-put-run-requires g c = ?
+pub put_run-requires : goal.put_run-requires
+put_run-requires g c = ?
 
-pub put-run-requires-2 : goal.put-run-requires-2
-put-run-requires-2 g c = ?
+pub put_run-requires-2 : goal.put_run-requires-2
+put_run-requires-2 g c = ?
 
-pub put-answer-end-requires : goal.put-answer-end-requires
-put-answer-end-requires g c = ?
+pub put_answer-end-requires : goal.put_answer-end-requires
+put_answer-end-requires g c = ?
 
 pub returns : goal.returns
 returns g c = ?

@@ -6,12 +6,12 @@ use Rattle.contents.specs.Content.{pair_from}
 use Rattle.contents.proofs.Mapped.{mapped_some, mapped_none}
 use Rattle.pages.proofs.page_network.PageViewEstimates.pair.Goals as goal
 
-pub returns-in-err-estimate-record : goal.returns-in-err-estimate-record
-returns-in-err-estimate-record g c =
+pub returns-in_err-estimate_record : goal.returns-in_err-estimate_record
+returns-in_err-estimate_record g c =
     let bs = c.args.self.now.bytes.now in
-    c.from-residual.ensures ∙ mapped_none (pair_from g.C.Cost) (decoded_run estimate_shape (header_of bs).stations (estimate_bytes bs)) c.args.station (sym c.in-err-estimate-record.was ∙ c.estimate-record.ensures)
+    c.from_residual.ensures ∙ mapped_none (pair_from g.C.Cost) (decoded_run estimate_shape (header_of bs).stations (estimate_bytes bs)) c.args.station (sym c.in_err-estimate_record.was ∙ c.estimate_record.ensures)
 
 pub returns : goal.returns
 returns g c =
     let bs = c.args.self.now.bytes.now in
-    ap Some c.pair-from.ensures ∙ mapped_some (pair_from g.C.Cost) (decoded_run estimate_shape (header_of bs).stations (estimate_bytes bs)) c.args.station _ (sym c.in-ok-estimate-record.was ∙ c.estimate-record.ensures)
+    ap Some c.pair_from.ensures ∙ mapped_some (pair_from g.C.Cost) (decoded_run estimate_shape (header_of bs).stations (estimate_bytes bs)) c.args.station _ (sym c.in_ok-estimate_record.was ∙ c.estimate_record.ensures)

@@ -6,12 +6,12 @@ use Rattle.contents.specs.Content.{section_from}
 use Rattle.contents.proofs.Mapped.{mapped_some, mapped_none}
 use Rattle.pages.proofs.page_network.PageViewNetwork.section.Goals as goal
 
-pub returns-in-err-section-record : goal.returns-in-err-section-record
-returns-in-err-section-record g c =
+pub returns-in_err-section_record : goal.returns-in_err-section_record
+returns-in_err-section_record g c =
     let bs = c.args.self.now.bytes.now in
-    record { exact = c.from-residual.ensures ∙ mapped_none (section_from g.C.Cost) (decoded_run section_shape (header_of bs).sections (section_bytes bs)) c.args.number (sym c.in-err-section-record.was ∙ c.section-record.ensures) }
+    record { exact = c.from_residual.ensures ∙ mapped_none (section_from g.C.Cost) (decoded_run section_shape (header_of bs).sections (section_bytes bs)) c.args.number (sym c.in_err-section_record.was ∙ c.section_record.ensures) }
 
 pub returns : goal.returns
 returns g c =
     let bs = c.args.self.now.bytes.now in
-    record { exact = ap Some c.section-from.ensures ∙ mapped_some (section_from g.C.Cost) (decoded_run section_shape (header_of bs).sections (section_bytes bs)) c.args.number _ (sym c.in-ok-section-record.was ∙ c.section-record.ensures) }
+    record { exact = ap Some c.section_from.ensures ∙ mapped_some (section_from g.C.Cost) (decoded_run section_shape (header_of bs).sections (section_bytes bs)) c.args.number _ (sym c.in_ok-section_record.was ∙ c.section_record.ensures) }

@@ -10,41 +10,41 @@ use Rattle.contents.proofs.Mapped.{mapped_some, mapped_none}
 use Rattle.pages.proofs.Views.{view_answered}
 use Rattle.pages.proofs.view.PageView.step.Goals as goal
 
-pub returns-in-err-answer : goal.returns-in-err-answer
-returns-in-err-answer g c =
+pub returns-in_err-answer : goal.returns-in_err-answer
+returns-in_err-answer g c =
     let bs = c.args.self.now.bytes.now in
-    c.from-residual.ensures ∙ ap (λ o. step_in o c.args.k) (answer_none g.C.Cost bs (sym c.in-err-answer.was ∙ c.answer-record.ensures))
+    c.from_residual.ensures ∙ ap (λ o. step_in o c.args.k) (answer_none g.C.Cost bs (sym c.in_err-answer.was ∙ c.answer_record.ensures))
 
-pub nth-record-requires : goal.nth-record-requires
-nth-record-requires g c =
+pub nth_record-requires : goal.nth_record-requires
+nth_record-requires g c =
     let v = c.args.self.now in
     let bs = v.bytes.now in
     let rest = answer_bytes bs in
-    let a = c.in-ok-answer.answer in
-    let told : Some a ≡ record_in bs = sym c.in-ok-answer.was ∙ c.answer-record.ensures in
+    let a = c.in_ok-answer.answer in
+    let told : Some a ≡ record_in bs = sym c.in_ok-answer.was ∙ c.answer_record.ensures in
     let there = view_answered v (answer_told bs a told) in
     let steps = ap (λ x. x.steps) (answer_is bs a told) in
     let at = 10 + 12 * (header_of bs).sections + 21 * (header_of bs).stations in
-    omega (arith, there.answer.fits, there.steps.fits, steps, c.from.ensures, c.answer-at.ensures, length-drop 20 rest, ap length (answer_place bs), length-drop at bs)
+    omega (arith, there.answer.fits, there.steps.fits, steps, c.from.ensures, c.answer_at.ensures, length-drop 20 rest, ap length (answer_place bs), length-drop at bs)
 
-pub returns-in-err-body : goal.returns-in-err-body
-returns-in-err-body g c =
+pub returns-in_err-body : goal.returns-in_err-body
+returns-in_err-body g c =
     let bs = c.args.self.now.bytes.now in
     let k = g.C.Cost in
-    let a = c.in-ok-answer.answer in
+    let a = c.in_ok-answer.answer in
     let run = decoded_run step_shape a.steps (step_bytes (answer_bytes bs)) in
-    let read = steps_read bs c.answer-at.result c.from.result a.steps c.args.k c.nth-record.result c.nth-record.ensures c.answer-at.ensures c.from.ensures in
-    c.from-residual-in-err-body.ensures
-    ∙ mapped_none (step_from k (net_of k bs).sections) run c.args.k (sym c.in-err-body.was ∙ read)
-    ∙ ap (λ o. step_in o c.args.k) (answer_some k bs a (sym c.in-ok-answer.was ∙ c.answer-record.ensures))
+    let read = steps_read bs c.answer_at.result c.from.result a.steps c.args.k c.nth_record.result c.nth_record.ensures c.answer_at.ensures c.from.ensures in
+    c.from_residual-in_err-body.ensures
+    ∙ mapped_none (step_from k (net_of k bs).sections) run c.args.k (sym c.in_err-body.was ∙ read)
+    ∙ ap (λ o. step_in o c.args.k) (answer_some k bs a (sym c.in_ok-answer.was ∙ c.answer_record.ensures))
 
 pub returns : goal.returns
 returns g c =
     let bs = c.args.self.now.bytes.now in
     let k = g.C.Cost in
-    let a = c.in-ok-answer.answer in
+    let a = c.in_ok-answer.answer in
     let run = decoded_run step_shape a.steps (step_bytes (answer_bytes bs)) in
-    let read = steps_read bs c.answer-at.result c.from.result a.steps c.args.k c.nth-record.result c.nth-record.ensures c.answer-at.ensures c.from.ensures in
-    ap Some c.step-from.ensures
-    ∙ mapped_some (step_from k (net_of k bs).sections) run c.args.k c.in-ok-body.body (sym c.in-ok-body.was ∙ read)
-    ∙ ap (λ o. step_in o c.args.k) (answer_some k bs a (sym c.in-ok-answer.was ∙ c.answer-record.ensures))
+    let read = steps_read bs c.answer_at.result c.from.result a.steps c.args.k c.nth_record.result c.nth_record.ensures c.answer_at.ensures c.from.ensures in
+    ap Some c.step_from.ensures
+    ∙ mapped_some (step_from k (net_of k bs).sections) run c.args.k c.in_ok-body.body (sym c.in_ok-body.was ∙ read)
+    ∙ ap (λ o. step_in o c.args.k) (answer_some k bs a (sym c.in_ok-answer.was ∙ c.answer_record.ensures))

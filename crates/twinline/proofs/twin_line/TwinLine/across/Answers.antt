@@ -8,12 +8,12 @@ use Rattle.twinline.proofs.twin_line.TwinLine.across.Goals as goal
 pub returns-then-station-self : goal.returns-then-station-self
 returns-then-station-self c =
     let x = c.crossing.ensures in
-    across_upper (line_of c.args.self.now) (line_range c.args.self.now) c.args.station c.crossing.result c.args.side c.if-station-self.true (rw c.is-forward.ensures at x)
+    across_upper (line_of c.args.self.now) (line_range c.args.self.now) c.args.station c.crossing.result c.args.side c.if-station-self.true (rw c.is_forward.ensures at x)
 
 pub returns-then-station-self-2 : goal.returns-then-station-self-2
 returns-then-station-self-2 c =
     let x = c.crossing-then-station-self-2.ensures in
-    across_lower (line_of c.args.self.now) (line_range c.args.self.now) c.args.station c.crossing-then-station-self-2.result c.args.side c.if-station-self.false (rw c.is-forward-then-station-self-2.ensures at x)
+    across_lower (line_of c.args.self.now) (line_range c.args.self.now) c.args.station c.crossing-then-station-self-2.result c.args.side c.if-station-self.false (rw c.is_forward-then-station-self-2.ensures at x)
 
 pub returns-else-station-self-2 : goal.returns-else-station-self-2
 returns-else-station-self-2 c = across_none (line_of c.args.self.now) (line_range c.args.self.now) c.args.side c.args.station c.if-station-self-2.false

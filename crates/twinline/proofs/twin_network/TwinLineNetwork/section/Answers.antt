@@ -5,8 +5,8 @@ use Rattle.twinline.proofs.Twins.{line_range, nth_counting, nth_counting_past}
 use Rattle.twinline.proofs.Drawings.{drawn_here, drawn_past}
 use Rattle.twinline.proofs.twin_network.TwinLineNetwork.section.Goals as goal
 
-pub returns-then-number-section-count : goal.returns-then-number-section-count
-returns-then-number-section-count g c =
+pub returns-then-number-section_count : goal.returns-then-number-section_count
+returns-then-number-section_count g c =
     let t = line_of c.args.self.now in
     let range = line_range c.args.self.now in
     let made = g.C.Cost.made in
@@ -17,8 +17,8 @@ returns-then-number-section-count g c =
       drawn = λ s. subst (λ x. (Some x ≡ Some s) ↔ Drawn made t n s) (sym c.numbered.ensures) (drawn_here made t range n l s);
     }
 
-pub returns-else-number-section-count : goal.returns-else-number-section-count
-returns-else-number-section-count g c =
+pub returns-else-number-section_count : goal.returns-else-number-section_count
+returns-else-number-section_count g c =
     let t = line_of c.args.self.now in
     let range = line_range c.args.self.now in
     let made = g.C.Cost.made in

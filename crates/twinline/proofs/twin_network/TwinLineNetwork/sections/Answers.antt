@@ -6,4 +6,4 @@ use Rattle.twinline.proofs.twin_network.TwinLineNetwork.sections.Goals as goal
 pub returns : goal.returns
 returns g c =
     let t = line_of c.args.self.now in
-    c.section-count.ensures ∙ sym (length-map-range_with_len (numbered g.C.Cost.made t) 0 (section_count t))
+    c.section_count.ensures ∙ sym (length-map-range_with_len (numbered g.C.Cost.made t) 0 (section_count t))

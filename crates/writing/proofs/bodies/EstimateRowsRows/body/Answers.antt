@@ -3,10 +3,10 @@ use Rattle.contents.specs.Encoding.{estimate_record}
 use Rattle.contents.proofs.Mapped.{mapped_some, mapped_none}
 use Rattle.writing.proofs.bodies.EstimateRowsRows.body.Goals as goal
 
-pub returns-in-err-pair : goal.returns-in-err-pair
-returns-in-err-pair g c =
-    c.from-residual.ensures ∙ mapped_none (estimate_record g.C.Cost) (g.E.Estimates.meaning c.args.self.now.estimates.now) c.args.k (sym c.in-err-pair.was ∙ c.pair.ensures)
+pub returns-in_err-pair : goal.returns-in_err-pair
+returns-in_err-pair g c =
+    c.from_residual.ensures ∙ mapped_none (estimate_record g.C.Cost) (g.E.Estimates.meaning c.args.self.now.estimates.now) c.args.k (sym c.in_err-pair.was ∙ c.pair.ensures)
 
 pub returns : goal.returns
 returns g c =
-    ap Some c.estimate-body.ensures ∙ mapped_some (estimate_record g.C.Cost) (g.E.Estimates.meaning c.args.self.now.estimates.now) c.args.k _ (sym c.in-ok-pair.was ∙ c.pair.ensures)
+    ap Some c.estimate_body.ensures ∙ mapped_some (estimate_record g.C.Cost) (g.E.Estimates.meaning c.args.self.now.estimates.now) c.args.k _ (sym c.in_ok-pair.was ∙ c.pair.ensures)

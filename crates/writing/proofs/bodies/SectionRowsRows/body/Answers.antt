@@ -4,17 +4,17 @@ use Rattle.contents.specs.Encoding.{section_record}
 use Rattle.contents.proofs.Mapped.{mapped_some, mapped_none, all_nth}
 use Rattle.writing.proofs.bodies.SectionRowsRows.body.Goals as goal
 
-pub returns-in-err-section : goal.returns-in-err-section
-returns-in-err-section g c =
-    c.from-residual.ensures ∙ mapped_none (section_record g.C.Cost) (g.N.Network.meaning c.args.self.now.net.now).sections c.args.k (sym c.in-err-section.was ∙ c.section.ensures.exact)
+pub returns-in_err-section : goal.returns-in_err-section
+returns-in_err-section g c =
+    c.from_residual.ensures ∙ mapped_none (section_record g.C.Cost) (g.N.Network.meaning c.args.self.now.net.now).sections c.args.k (sym c.in_err-section.was ∙ c.section.ensures.exact)
 
-pub section-body-requires : goal.section-body-requires
-section-body-requires g c =
+pub section_body-requires : goal.section_body-requires
+section_body-requires g c =
     let net = g.N.Network.meaning c.args.self.now.net.now in
-    let range = all_nth (SectionInRange g.C.Cost.parts net.stations) net.sections c.args.k _ (sym c.in-ok-section.was ∙ c.section.ensures.exact) c.requires.each in
+    let range = all_nth (SectionInRange g.C.Cost.parts net.stations) net.sections c.args.k _ (sym c.in_ok-section.was ∙ c.section.ensures.exact) c.requires.each in
     let few = c.requires.few in
     record { from = omega arith; to = omega arith }
 
 pub returns : goal.returns
 returns g c =
-    ap Some c.section-body.ensures ∙ mapped_some (section_record g.C.Cost) (g.N.Network.meaning c.args.self.now.net.now).sections c.args.k _ (sym c.in-ok-section.was ∙ c.section.ensures.exact)
+    ap Some c.section_body.ensures ∙ mapped_some (section_record g.C.Cost) (g.N.Network.meaning c.args.self.now.net.now).sections c.args.k _ (sym c.in_ok-section.was ∙ c.section.ensures.exact)

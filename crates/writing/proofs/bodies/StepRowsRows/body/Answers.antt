@@ -5,8 +5,8 @@ use Rattle.contents.specs.Encoding.{step_record}
 use Rattle.contents.proofs.Mapped.{mapped_some, mapped_none}
 use Rattle.writing.proofs.bodies.StepRowsRows.body.Goals as goal
 
-pub step-body-requires : goal.step-body-requires
-step-body-requires g c =
+pub step_body-requires : goal.step_body-requires
+step_body-requires g c =
     let steps = c.args.self.now.steps.now in
     All-get_or (λ s. s.section < 2 ^ 16) steps c.args.k c.index-self-k.result c.if-k-self.true c.requires
 
@@ -15,7 +15,7 @@ returns-then-k-self g c =
     let steps = c.args.self.now.steps.now in
     let k = c.args.k in
     let d = c.index-self-k.result in
-    ap Some c.step-body.ensures ∙ mapped_some (step_record g.C.Cost) steps k (get_or steps k d) (sym (slice_get-get_or steps k d c.if-k-self.true))
+    ap Some c.step_body.ensures ∙ mapped_some (step_record g.C.Cost) steps k (get_or steps k d) (sym (slice_get-get_or steps k d c.if-k-self.true))
 
 pub returns-else-k-self : goal.returns-else-k-self
 returns-else-k-self g c = mapped_none (step_record g.C.Cost) c.args.self.now.steps.now c.args.k (sym (slice_get_past c.args.self.now.steps.now c.args.k c.if-k-self.false))
