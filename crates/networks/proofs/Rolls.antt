@@ -1,5 +1,5 @@
 -- The numbers of the elements that pass are a roll: rising, nothing else, complete.
-use Rattle.std.proofs.Common.{◌≡◌, ℕ, zero, suc, ◌+◌, ◌<◌, ◌≤◌, Bool, true, false, cond, List, [], ◌∷◌, Some, None, Option, sym, refl, ap, ◌∙◌, true≢false, zero-add, arith}
+use Rattle.std.proofs.Common.{◌≡◌, ℕ, zero, suc, ◌+◌, ◌<◌, ◌≤◌, Bool, true, false, cond, List, [], ◌∷◌, Some, None, sym, refl, ap, ◌∙◌, zero-add, arith}
 use Rattle.std.specs.List.{slice_get}
 use Rattle.networks.specs.Nets.{numbers, Roll}
 

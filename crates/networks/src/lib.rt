@@ -1,4 +1,6 @@
 //! Pipe networks and estimates behind questions, and what they mean.
+#![tactic(auto)]
+
 pub mod blank;
 pub mod blank_estimates;
 pub mod estimates;

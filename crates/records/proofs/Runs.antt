@@ -1,5 +1,5 @@
 -- A run of records, one at a time from its front.
-use Rattle.std.proofs.Common.{◌≡◌, ℕ, suc, ◌+◌, ◌-◌, ◌*◌, ◌<◌, ◌≤◌, List, drop, Ok, Err, Result, sym, refl, ap, ◌∙◌, mul-one, mul-add, arith, drop-drop}
+use Rattle.std.proofs.Common.{◌≡◌, ℕ, suc, ◌+◌, ◌-◌, ◌*◌, ◌<◌, ◌≤◌, List, drop, Ok, Err, Result, sym, ap, ◌∙◌, mul-one, mul-add, arith, drop-drop}
 use Rattle.faults.specs.declared.Fault.{Fault}
 use Rattle.records.specs.declared.limits.Limits.{Limits}
 use Rattle.records.specs.Shapes.{Shape, size_of}

@@ -1,7 +1,6 @@
 -- The records of a page: header, section, estimate, answer, step and end.
-use Rattle.std.specs.Prelude.{ℕ, Bool, true, ◌&&◌, ◌||◌, List, [], ◌∷◌, ◌==◌, nat_le, nat_lt, slice_index}
+use Rattle.std.specs.Prelude.{true, ◌&&◌, ◌||◌, [], ◌∷◌, ◌==◌, nat_le, nat_lt, slice_index}
 use Rattle.amounts.specs.Forms.{moves_fit}
-use Rattle.records.specs.declared.limits.Limits.{Limits}
 use Rattle.records.specs.declared.kinds.HeaderRecord.{HeaderRecord}
 use Rattle.records.specs.declared.kinds.SectionRecord.{SectionRecord}
 use Rattle.records.specs.declared.kinds.EstimateRecord.{EstimateRecord}

@@ -1,5 +1,5 @@
 -- Which sections of a twin line go across at a station.
-use Rattle.std.proofs.Common.{◌≡◌, ℕ, ◌+◌, ◌-◌, ◌*◌, ◌/◌, ◌%◌, ◌<◌, ◌≤◌, Bool, true, false, cond, not, eqb, ltb, ◌⊎◌, Some, None, Option, sym, refl, ap, ◌∙◌, ⊎_elim, div-add-mod', le-div_iff_mul-le, div-mul-le_self, arith}
+use Rattle.std.proofs.Common.{◌≡◌, ℕ, ◌+◌, ◌-◌, ◌*◌, ◌/◌, ◌%◌, ◌<◌, ◌≤◌, Bool, true, false, cond, not, Some, None, Option, sym, ap, ◌∙◌, ⊎_elim, div-add-mod', le-div_iff_mul-le, arith}
 use native.Mathlib.Nat.{div-eq_of_eq-mul_left, mul-mod_left}
 use Rattle.std.proofs.lemmas.Bool.{le-ltb, eq-eqb, ne_eqb, eqb-true, eqb-false, cases_Bool}
 use Rattle.std.proofs.lemmas.Bool.Decides.{nat_tests}

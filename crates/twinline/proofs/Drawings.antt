@@ -1,14 +1,12 @@
 -- What is worked out by number is what is drawn.
-use Rattle.std.proofs.Common.{◌≡◌, ℕ, ◌+◌, ◌-◌, ◌*◌, ◌/◌, ◌%◌, ◌<◌, ◌≤◌, Bool, true, false, cond, eqb, ltb, ◌⊎◌, ◌↔◌, Some, None, Option, sym, refl, ap, ◌∙◌, subst, subst₂, ⊎_elim, le-div_iff_mul-le, arith}
-use Rattle.std.specs.List.{slice_get}
+use Rattle.std.proofs.Common.{◌≡◌, ℕ, ◌+◌, ◌-◌, ◌*◌, ◌/◌, ◌%◌, ◌<◌, ◌≤◌, ◌↔◌, Some, None, sym, refl, ap, ◌∙◌, subst, subst₂, ⊎_elim, le-div_iff_mul-le, arith}
 use Rattle.std.proofs.lemmas.Bool.{lt-ltb, le-ltb, eq-eqb, ne_eqb, cases_lt, cases_eq}
 use Rattle.amounts.specs.Forms.{section_form}
 use Rattle.amounts.specs.declared.cost.SectionForm.{SectionForm}
-use Rattle.faults.specs.declared.Side.TheVariants.{Forward, Backward}
 use Rattle.networks.specs.declared.section.Section.{Section}
-use Rattle.twinline.specs.Twin.{Line, LineRange, along, section_count, cross_place, cross_down, end_of, amount_of, open_section, numbered, twin_net}
+use Rattle.twinline.specs.Twin.{Line, LineRange, along, section_count, cross_place, open_section, numbered}
 use Rattle.twinline.specs.Drawn.{Drawn, upper_run, lower_run, down, up}
-use Rattle.twinline.proofs.Twins.{place_within, nth_counting, nth_counting_past}
+use Rattle.twinline.proofs.Twins.{place_within}
 
 module _ {S : Type 0} (made : SectionForm → S) (t : Line) (r : LineRange t) where
   abbrev crossed : S

@@ -1,13 +1,12 @@
 -- The twin line's sections: where they are, and that they are in range.
-use Rattle.std.proofs.Common.{◌≡◌, ℕ, zero, suc, ◌+◌, ◌-◌, ◌*◌, ◌/◌, ◌%◌, ◌^◌, ◌<◌, ◌≤◌, Bool, true, false, cond, eqb, ltb, ◌↔◌, List, [], ◌∷◌, map, length, get_or, Some, None, Option, sym, refl, ap, ◌∙◌, subst, mul-le-mul_right, le-div_iff_mul-le, div-le_self, div-mul-le_self, arith, lit<}
+use Rattle.std.proofs.Common.{◌≡◌, ℕ, zero, suc, ◌+◌, ◌-◌, ◌*◌, ◌/◌, ◌<◌, ◌≤◌, ltb, map, length, Some, None, sym, ap, ◌∙◌, le-div_iff_mul-le, div-le_self, arith, lit<}
 use Rattle.std.specs.List.{range_with_len, AllByRecursion as All, slice_get}
 use Rattle.std.proofs.lemmas.List.FromFn.{length-map-range_with_len, get_or-map-range_with_len}
 use Rattle.std.proofs.lemmas.Option.{slice_get-get_or, slice_get_past}
-use Rattle.std.proofs.lemmas.Bool.{cond_both, ltb-true, ltb-false}
+use Rattle.std.proofs.lemmas.Bool.{cond_both}
 use Rattle.std.proofs.lemmas.Bool.Decides.{nat_tests}
-use Rattle.networks.specs.declared.section.Section.{Section}
 use Rattle.twinline.specs.declared.twin_line.TwinLine.{TwinLine}
-use Rattle.networks.specs.Nets.{Net, SectionInRange, InRange}
+use Rattle.networks.specs.Nets.{SectionInRange, InRange}
 use Rattle.amounts.specs.Forms.{SectionRange, section_form}
 use Rattle.amounts.specs.declared.cost.SectionForm.{SectionForm}
 use Rattle.twinline.specs.Twin.{Line, LineRange, line_of, along, section_count, amount_of, numbered, twin_net, cross_place}

@@ -1,4 +1,4 @@
-use Rattle.std.proofs.Common.{◌≡◌, ◌*◌, drop, sym, ap, ◌∙◌, ap₂}
+use Rattle.std.proofs.Common.{◌*◌, drop, ap, ◌∙◌, ap₂}
 use Rattle.std.proofs.lemmas.Result.{err_from_is_err_and}
 use Rattle.records.specs.Due.{due_record}
 use Rattle.records.proofs.Runs.{run_more, run_stops, run_all}

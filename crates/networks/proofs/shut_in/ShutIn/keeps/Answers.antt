@@ -1,4 +1,4 @@
-use Rattle.std.proofs.Common.{◌≡◌, ◌≤◌, length, sym, ◌∙◌, arith}
+use Rattle.std.proofs.Common.{◌≤◌, length, sym, ◌∙◌, arith}
 use Rattle.networks.proofs.Kept.{later_here, later_more, later_none}
 use Rattle.networks.proofs.shut_in.ShutIn.keeps.Goals as goal
 

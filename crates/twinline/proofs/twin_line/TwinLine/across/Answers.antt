@@ -1,5 +1,3 @@
-use Rattle.std.proofs.Common.{◌≡◌, Bool, not, sym, ap, subst}
-use Rattle.twinline.specs.Touching.{Crossing}
 use Rattle.twinline.specs.Twin.{line_of}
 use Rattle.twinline.proofs.Twins.{line_range}
 use Rattle.twinline.proofs.Crossings.{across_upper, across_lower, across_none}

@@ -1,5 +1,3 @@
-use Rattle.std.proofs.Common.{◌≡◌, Bool, sym, subst}
-use Rattle.twinline.specs.Touching.{Crossing}
 use Rattle.twinline.specs.Twin.{line_of}
 use Rattle.twinline.proofs.Twins.{line_range}
 use Rattle.twinline.proofs.Crossings.{cross_none, cross_at_down, cross_at_up}
