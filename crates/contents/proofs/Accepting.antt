@@ -1,5 +1,5 @@
 -- What an accepted page holds, whatever the kind it was read for.
-use Rattle.std.proofs.Common.{◌≡◌, ℕ, zero, suc, ◌+◌, ◌-◌, ◌*◌, ◌^◌, ◌<◌, ◌≤◌, Bool, true, false, cond, ◌&&◌, eqb, ltb, leb, List, [], ◌∷◌, map, length, get_or, drop, is_ok, Some, None, Ok, Err, Option, Result, sym, refl, ap, ◌∙◌, arith, length-drop, drop-drop}
+use Rattle.std.proofs.Common.{◌≡◌, ℕ, suc, ◌+◌, ◌*◌, ◌^◌, ◌<◌, ◌≤◌, true, false, cond, ◌&&◌, eqb, ltb, leb, List, [], ◌∷◌, length, get_or, drop, is_ok, Some, None, Ok, Err, Option, Result, sym, refl, ap, ◌∙◌, arith, length-drop, drop-drop}
 use Rattle.std.specs.List.{AllByRecursion as All}
 use Rattle.std.proofs.ByRecursion.{All-drop, All-map, All-weaker}
 use Rattle.std.proofs.lemmas.List.{length-map}
@@ -10,7 +10,7 @@ use Rattle.records.specs.Shapes.{decoded, decoded_run}
 use Rattle.records.specs.Due.{and_then, due_record, due_run}
 use Rattle.records.specs.Layout.{header_shape, section_shape, estimate_shape, answer_shape, step_shape}
 use Rattle.records.proofs.Passing.{Stands, due_stands, RunStands, run_stands, run_fits, length-decoded_run}
-use Rattle.amounts.specs.Forms.{SectionRange, LabelRange, LabelLaws, OnPage, section_form, label_form}
+use Rattle.amounts.specs.Forms.{SectionRange, LabelLaws, OnPage, section_form, label_form}
 use Rattle.amounts.specs.declared.cost.Cost as cost
 use Rattle.amounts.specs.declared.cost.SectionForm.{SectionForm}
 use Rattle.networks.specs.Nets.{SectionInRange, InRange}

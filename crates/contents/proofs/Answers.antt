@@ -1,5 +1,5 @@
 -- The answer that an accepted page tells.
-use Rattle.std.proofs.Common.{◌≡◌, ℕ, ◌+◌, ◌*◌, Bool, true, false, cond, List, map, length, drop, Some, None, Option, sym, refl, ap, ◌∙◌, arith, drop-drop}
+use Rattle.std.proofs.Common.{◌≡◌, ℕ, ◌+◌, ◌*◌, Bool, true, false, cond, List, length, drop, Some, None, Option, sym, refl, ap, ◌∙◌, arith, drop-drop}
 use Rattle.std.specs.List.{slice_get}
 use Rattle.std.proofs.lemmas.List.{length-map}
 use Rattle.amounts.specs.declared.cost.Cost as cost

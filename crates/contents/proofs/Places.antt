@@ -4,7 +4,7 @@ use Rattle.std.specs.List.{slice_get}
 use Rattle.records.specs.Bytes.{width_of}
 use Rattle.records.specs.Shapes.{Shape, size_of, decoded, decoded_run}
 use Rattle.networks.proofs.Numbers.{below_nth}
-use Rattle.records.proofs.Passing.{nth_run, nth_run_past}
+use Rattle.records.proofs.Passing.{nth_run}
 
 -- the k-th of the records has room
 pub room : (from size count k len : ℕ) → k < count → from + size * count ≤ len → from + size * k + size ≤ len

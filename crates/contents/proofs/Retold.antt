@@ -15,12 +15,11 @@ use Rattle.records.specs.Shapes.{decoded, decoded_run}
 use Rattle.records.proofs.Coding.{number_below}
 use Rattle.contents.specs.declared.answer.Outcome.{Outcome}
 use Rattle.contents.specs.declared.answer.Outcome.TheVariants.{Found, NoRoute}
-use Rattle.contents.specs.declared.answer.Step.{Step}
 use Rattle.contents.specs.Checks.{answer_bytes, has_answer, step_bytes}
 use Rattle.contents.specs.Content.{Meant, steps_in, step_from, to_of, net_of, answer_of}
 use Rattle.contents.specs.Retracing.{sections_of, walked, walks, retraced, Retraced, RetracedIn}
 use Rattle.contents.proofs.Answers.{meaning, meaning_steps}
-use Rattle.contents.proofs.Routing.{Right, Ends, walks_right, right_walks}
+use Rattle.contents.proofs.Routing.{Ends, walks_right, right_walks}
 
 all_nth : {X : Type 0} (P : X → Type 0) (xs : List X) (k : ℕ) (x : X) → All P xs → slice_get xs k ≡ Some x → P x
 all_nth P [] k x h e = absurd (let z : ◌≡◌ {A = ℕ} 0 1 = cc in omega arith)

@@ -1,5 +1,5 @@
 -- What a page means: a network, estimates and perhaps an answer, in a kind of cost.
-use Rattle.std.specs.Prelude.{◌≡◌, ℕ, Bool, true, false, cond, List, [], ◌∷◌, map, length, Some, None, Option, ◌==◌}
+use Rattle.std.specs.Prelude.{ℕ, cond, List, [], map, length, Some, None, Option, ◌==◌}
 use Rattle.std.specs.List.{slice_get}
 use Rattle.amounts.specs.declared.cost.Cost as cost
 use Rattle.amounts.specs.Forms.{section_form, label_form}

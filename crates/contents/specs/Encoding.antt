@@ -1,5 +1,5 @@
 -- The bytes of a page's content, and which contents a page can hold.
-use Rattle.std.specs.Prelude.{◌≡◌, ℕ, ◌^◌, ◌<◌, ◌≤◌, cond, List, [], ◌∷◌, ◌++◌, map, length, Some, None, Option}
+use Rattle.std.specs.Prelude.{◌≡◌, ℕ, ◌^◌, ◌<◌, ◌≤◌, cond, List, [], ◌++◌, map, length, Some, None, Option}
 use Rattle.std.specs.List.{AllByRecursion as All, slice_get}
 use Rattle.amounts.specs.declared.cost.Cost as cost
 use Rattle.amounts.specs.declared.cost.LabelForm.{LabelForm}
