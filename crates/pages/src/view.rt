@@ -4,10 +4,10 @@ ghost use Rattle.contents.specs.Checks.{header_of, check_page, all_bytes};
 
 use amounts::cost::Cost;
 use records::kinds::HeaderRecord;
+use std::alloc::AllocError;
 use std::marker::PhantomData;
 
 /// The page's own bytes and its header, for a kind of cost.
-#[derive(Clone, Copy)]
 pub struct PageView<'a, C: Cost> {
     pub(crate) bytes: &'a [u8],
     pub(crate) header: HeaderRecord,
@@ -16,3 +16,16 @@ pub struct PageView<'a, C: Cost> {
     ghost headed: { header ≡ header_of bytes.now },
     ghost accepted: { is_ok (check_page header.kind bytes.now) ≡ true },
 }
+
+// A derive is refused at a struct with ghost fields.
+impl<C: Cost> Clone for PageView<'_, C> {
+    ghost is_clone = { λ v w. w ≡ v };
+
+    ghost is_infallible = { λ _. Unit {0} };
+
+    fn clone(&self) -> Result<Self, AllocError> {
+        Ok(*self)
+    }
+}
+
+impl<C: Cost> Copy for PageView<'_, C> {}

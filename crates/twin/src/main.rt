@@ -1,4 +1,6 @@
 //! Works out a twin line from its drawing and prints its sections.
+#![tactic(auto)]
+
 mod asked;
 mod report;
 

@@ -23,7 +23,8 @@ fn heading<C: Cost, N: Network<C>>(out: &mut String, net: &N) -> fmt::Result
     writeln!(
         out,
         "stations {stations} sections {sections} launcher {launcher} trap {trap}"
-    )
+    )?;
+    Ok(())
 }
 
 /// A line with a section.
@@ -39,7 +40,8 @@ fn section_line<C: Cost>(
     let form = C::parts(section.amount);
     let moves = form.moves;
     let samples = form.samples;
-    writeln!(out, "{number} {from} {to} {moves} {samples}")
+    writeln!(out, "{number} {from} {to} {moves} {samples}")?;
+    Ok(())
 }
 
 /// A network's line, and a line a section.

@@ -1,6 +1,6 @@
-use Rattle.std.proofs.Common.{◌≡◌, ◌*◌, drop, Ok, sym, ap, ◌∙◌, ap₂}
+use Rattle.std.proofs.Common.{◌*◌, drop, Ok, sym, ap, ◌∙◌}
 use Rattle.std.proofs.lemmas.Result.{err_from_is_err_and}
-use Rattle.contents.specs.Checks.{header_of, headed, check_page}
+use Rattle.contents.specs.Checks.{header_of, headed}
 use Rattle.contents.proofs.Checking.{header_is, page_answer}
 use Rattle.pages.proofs.check.check_page.Goals as goal
 

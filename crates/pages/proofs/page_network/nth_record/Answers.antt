@@ -7,13 +7,13 @@ use Rattle.pages.proofs.page_network.nth_record.Goals as goal
 pub returns-then-k-count : goal.returns-then-k-count
 returns-then-k-count g c = sym (nth_run_past g.R.Record.shape c.args.count c.args.k (drop c.args.from c.args.bytes.now) c.if-k-count.true)
 
-pub overflow-mul-size : goal.overflow-mul-size
-overflow-mul-size g c =
+pub overflow_mul-size : goal.overflow_mul-size
+overflow_mul-size g c =
     let there = room c.args.from (size_of g.R.Record.shape) c.args.count c.args.k (length c.args.bytes.now) c.if-k-count.false c.requires in
     omega (arith, ap (λ n. n * c.args.k) c.size.ensures)
 
-pub overflow-add-from : goal.overflow-add-from
-overflow-add-from g c =
+pub overflow_add-from : goal.overflow_add-from
+overflow_add-from g c =
     let there = room c.args.from (size_of g.R.Record.shape) c.args.count c.args.k (length c.args.bytes.now) c.if-k-count.false c.requires in
     omega (arith, ap (λ n. n * c.args.k) c.size.ensures)
 

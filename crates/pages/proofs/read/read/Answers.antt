@@ -1,4 +1,4 @@
-use Rattle.std.proofs.Common.{◌≡◌, get_or, is_ok, sym, refl, ap, ◌∙◌, arith}
+use Rattle.std.proofs.Common.{is_ok, sym, refl, ap, ◌∙◌, arith}
 use Rattle.std.proofs.lemmas.Result.{err_from_is_err_and}
 use Rattle.contents.specs.Checks.{headed, header_of, check_page}
 use Rattle.contents.proofs.Accepting.{headed_ok, headed_err, kind_is, test_from_each, bytes_from_test}
@@ -13,19 +13,23 @@ returns-in_err-header g c =
     let p = err_from_is_err_and c.from_residual.result c.from_residual.ensures.1 in
     rw (p.1, p.2) (record { answer = headed_err (header_of bs) (check_page kind bs) _ (c.in_err-header.ensures ∙ ap (λ k. headed (header_of bs) (check_page k bs)) c.kind_byte.ensures); filled = refl; again = tt })
 
-pub invariant-of-view : goal.invariant-of-view
-invariant-of-view g c =
+pub invariant_of-view : goal.invariant_of-view
+invariant_of-view g c =
     let bs = c.args.page.now in
     let kind = g.C.Cost.kind in
     let told = headed_ok _ (header_of bs) (check_page kind bs) (c.in_ok-header.ensures ∙ ap (λ k. headed (header_of bs) (check_page k bs)) c.kind_byte.ensures) in
     let same = kind_is kind bs told.1 in
-    (test_from_each bs (λ i. omega (arith, c.type-inv.page i)), (told.0, (ap (λ h. is_ok (check_page h.kind bs)) told.0 ∙ ap (λ k. is_ok (check_page k bs)) same ∙ ap is_ok told.1, tt)))
+    record {
+      bytes_fit = test_from_each bs (λ i. omega (arith, c.type_inv.page i));
+      headed = told.0;
+      accepted = ap (λ h. is_ok (check_page h.kind bs)) told.0 ∙ ap (λ k. is_ok (check_page k bs)) same ∙ ap is_ok told.1;
+    }
 
 pub returns : goal.returns
 returns g c =
     let bs = c.args.page.now in
     let kind = g.C.Cost.kind in
     let told = headed_ok _ (header_of bs) (check_page kind bs) (c.in_ok-header.ensures ∙ ap (λ k. headed (header_of bs) (check_page k bs)) c.kind_byte.ensures) in
-    let all = bytes_from_test bs (test_from_each bs (λ i. omega (arith, c.type-inv.page i))) in
+    let all = bytes_from_test bs (test_from_each bs (λ i. omega (arith, c.type_inv.page i))) in
     let laws : PageLaws g.C.Cost = record { sections = g.met.C.Cost.sections; labels = g.met.C.Cost.labels; kinds = g.met.C.Cost.kinds } in
     record { answer = sym told.1; filled = refl; again = again_of g.C.Cost laws bs all told.1 }

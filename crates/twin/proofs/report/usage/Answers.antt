@@ -1,4 +1,4 @@
-use Rattle.std.proofs.Common.{◌≡◌, ◌++◌, ap, ◌∙◌}
+use Rattle.std.proofs.Common.{◌++◌, ap, ◌∙◌}
 use Rattle.twin.specs.Report.{usage_line}
 use Rattle.twin.proofs.report.usage.Goals as goal
 

@@ -10,14 +10,14 @@ use Rattle.writing.proofs.rows.put_run.Goals as goal
 pub loop-body-init : goal.loop-body-init
 loop-body-init g c = sym (overlay_none c.args.page.now c.args.at)
 
-pub overflow-mul-size : goal.overflow-mul-size
-overflow-mul-size g c =
+pub overflow_mul-size : goal.overflow_mul-size
+overflow_mul-size g c =
     let rows = g.T.Rows.bodies c.args.rows.now in
     let there = row_room g.T.Body.Record.shape c.args.at rows c.loop-body.k _ (length c.args.page.now) c.in-Some.ensures c.requires.room in
     omega (arith, ap (λ n. n * c.loop-body.k) c.size-size.ensures)
 
-pub overflow-add-at : goal.overflow-add-at
-overflow-add-at g c =
+pub overflow_add-at : goal.overflow_add-at
+overflow_add-at g c =
     let rows = g.T.Rows.bodies c.args.rows.now in
     let there = row_room g.T.Body.Record.shape c.args.at rows c.loop-body.k _ (length c.args.page.now) c.in-Some.ensures c.requires.room in
     omega (arith, ap (λ n. n * c.loop-body.k) c.size-size.ensures)
@@ -28,8 +28,8 @@ put-requires g c =
     let there = row_room g.T.Body.Record.shape c.args.at rows c.loop-body.k _ (length c.args.page.now) c.in-Some.ensures c.requires.room in
     omega (arith, ap (λ n. n * c.loop-body.k) c.size-size.ensures)
 
-pub overflow-add-k : goal.overflow-add-k
-overflow-add-k g c =
+pub overflow_add-k : goal.overflow_add-k
+overflow_add-k g c =
     let rows = g.T.Rows.bodies c.args.rows.now in
     let there = row_room g.T.Body.Record.shape c.args.at rows c.loop-body.k _ (length c.args.page.now) c.in-Some.ensures c.requires.room in
     omega (arith, some_wide g.T.Body.Record.shape c.loop-body.k)
@@ -53,4 +53,4 @@ pub returns : goal.returns
 returns g c =
     let rows = g.T.Rows.bodies c.args.rows.now in
     c.loop-body.invariant
-    ∙ ap (λ l. overlay c.args.page.now c.args.at (encoded_run g.T.Body.Record.shape l)) (take_all c.loop-body.k rows (past_nth rows c.loop-body.k c.in-default.ensures))
+    ∙ ap (λ l. overlay c.args.page.now c.args.at (encoded_run g.T.Body.Record.shape l)) (take_all c.loop-body.k rows (past_nth rows c.loop-body.k c.in_default.ensures))

@@ -10,10 +10,10 @@ use Rattle.contents.specs.Writing.{answer_size, RunFits, Short}
 use Rattle.contents.proofs.Wrote.{none_put, some_put}
 use Rattle.writing.proofs.write.put_answer.Goals as goal
 
-pub returns-in-default : goal.returns-in-default
-returns-in-default g c =
+pub returns-in_default : goal.returns-in_default
+returns-in_default g c =
     let o = on_some meant_of c.args.answer.now in
-    let none : o ≡ None = ap (on_some meant_of) c.in-default.is in
+    let none : o ≡ None = ap (on_some meant_of) c.in_default.is in
     record {
       end = omega (arith, ap answer_size none);
       run = rw none tt;

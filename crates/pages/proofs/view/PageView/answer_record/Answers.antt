@@ -1,4 +1,4 @@
-use Rattle.std.proofs.Common.{◌≡◌, ◌<◌, ◌≤◌, true, length, get_or, drop, sym, ap, ◌∙◌, subst, arith, rules}
+use Rattle.std.proofs.Common.{◌≡◌, ◌≤◌, true, length, get_or, drop, sym, ap, ◌∙◌, arith, rules}
 use Rattle.std.proofs.lemmas.Bool.{eq-eqb, ne_eqb}
 use Rattle.records.specs.Layout.{answer_shape}
 use Rattle.records.specs.Shapes.{size_of}
@@ -8,15 +8,15 @@ use Rattle.contents.proofs.Places.{front_is}
 use Rattle.pages.proofs.Views.{view_answered}
 use Rattle.pages.proofs.view.PageView.answer_record.Goals as goal
 
-pub returns-in-default : goal.returns-in-default
-returns-in-default g c =
+pub returns-in_default : goal.returns-in_default
+returns-in_default g c =
     let bs = c.args.self.now.bytes.now in
     let rest = c.bytes_from-rest.result.now in
     let place : rest ≡ answer_bytes bs = c.bytes_from-rest.ensures ∙ ap (λ n. drop n bs) c.answer_at.ensures ∙ answer_place bs in
     answer_absent bs rest place (empty_none rest (search rules))
 
-pub returns-in-default·2 : goal.returns-in-default·2
-returns-in-default·2 g c =
+pub returns-in_default-2 : goal.returns-in_default-2
+returns-in_default-2 g c =
     let bs = c.args.self.now.bytes.now in
     let rest = c.bytes_from-rest.result.now in
     let place : rest ≡ answer_bytes bs = c.bytes_from-rest.ensures ∙ ap (λ n. drop n bs) c.answer_at.ensures ∙ answer_place bs in

@@ -1,5 +1,4 @@
-use Rattle.std.proofs.Common.{◌≡◌, Some, None, sym, ap, ◌∙◌, ap₂}
-use Rattle.std.specs.List.{slice_get}
+use Rattle.std.proofs.Common.{ap, ◌∙◌, ap₂}
 use Rattle.records.specs.Shapes.{decoded_run}
 use Rattle.records.specs.Layout.{section_shape}
 use Rattle.contents.specs.Checks.{header_of, section_bytes}

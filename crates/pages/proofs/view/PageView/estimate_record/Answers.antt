@@ -1,4 +1,4 @@
-use Rattle.std.proofs.Common.{◌≡◌, ℕ, ◌+◌, ◌*◌, drop, sym, ap, ◌∙◌, ap₂, arith, drop-drop}
+use Rattle.std.proofs.Common.{ℕ, ◌+◌, ◌*◌, drop, sym, ap, ◌∙◌, ap₂, arith, drop-drop}
 use Rattle.std.specs.List.{slice_get}
 use Rattle.records.specs.Shapes.{decoded_run}
 use Rattle.records.specs.Layout.{estimate_shape}

@@ -1,4 +1,4 @@
-use Rattle.std.proofs.Common.{◌≡◌, length, sym, ap, ◌∙◌}
+use Rattle.std.proofs.Common.{length, sym, ap, ◌∙◌}
 use Rattle.contents.specs.Content.{steps_in, net_of, answer_of}
 use Rattle.contents.proofs.Answers.{filed_some}
 use Rattle.contents.proofs.Walking.{retraced_found, retraced_none}

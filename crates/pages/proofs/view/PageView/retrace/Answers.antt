@@ -1,4 +1,4 @@
-use Rattle.std.proofs.Common.{◌≡◌, ◌*◌, sym, ◌∙◌}
+use Rattle.std.proofs.Common.{◌*◌, sym, ◌∙◌}
 use Rattle.contents.specs.Checks.{header_of, section_bytes, estimate_bytes}
 use Rattle.contents.proofs.Accepting.{bytes_drop, net_range}
 use Rattle.contents.proofs.Retold.{retold_page}

@@ -1,4 +1,4 @@
-use Rattle.std.proofs.Common.{◌≡◌, ℕ, ◌<◌, ◌≤◌, eqb, length, sym, ap, ◌∙◌, arith}
+use Rattle.std.proofs.Common.{◌<◌, ◌≤◌, length, sym, ap, ◌∙◌, arith}
 use Rattle.std.proofs.lemmas.List.{length-map}
 use Rattle.std.proofs.lemmas.Bool.{eq-eqb, ne_eqb}
 use Rattle.records.specs.Shapes.{decoded_run}
@@ -31,14 +31,14 @@ loop-number-preserved g c =
           ap (coming test sections _) w.left-is ∙ coming_other test sections i _ here (same_start k c.args.side c.args.station body ∙ ne_eqb _ _ (λ e. w.if-start-station.false (c.start.ensures ∙ e))) n ∙ c.loop-number.invariant
     ]
 
-pub returns-in-default : goal.returns-in-default
-returns-in-default g c =
+pub returns-in_default : goal.returns-in_default
+returns-in_default g c =
     let k = g.C.Cost in
     let bs = c.args.self.now.bytes.now in
     let sections = (net_of k bs).sections in
     let test = starts {S = g.row.C-Section.Denot} c.args.side c.args.station in
     let i = c.loop-number.number in
-    let none = mapped_none (section_from k) (decoded_run section_shape (header_of bs).sections (section_bytes bs)) i c.in-default.ensures in
+    let none = mapped_none (section_from k) (decoded_run section_shape (header_of bs).sections (section_bytes bs)) i c.in_default.ensures in
     record {
       exact = sym (coming_none test sections i (past_nth sections i none) c.loop-number.left) ∙ c.loop-number.invariant;
       roll = roll_of test sections;

@@ -1,5 +1,4 @@
-use Rattle.std.proofs.Common.{◌≡◌, ℕ, ◌+◌, ◌*◌, length, drop, Some, sym, ap, ◌∙◌, ap₂, arith, length-drop, drop-drop}
-use Rattle.std.specs.List.{slice_get}
+use Rattle.std.proofs.Common.{◌≡◌, ◌+◌, ◌*◌, length, Some, sym, ap, ◌∙◌, arith, length-drop}
 use Rattle.records.specs.Layout.{step_shape}
 use Rattle.records.specs.Shapes.{decoded_run}
 use Rattle.contents.specs.Checks.{header_of, answer_bytes, step_bytes}

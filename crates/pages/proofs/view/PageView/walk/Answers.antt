@@ -1,4 +1,4 @@
-use Rattle.std.proofs.Common.{◌≡◌, true, false, ◌&&◌, eqb, sym, ap, ◌∙◌, ap₂, arith}
+use Rattle.std.proofs.Common.{◌&&◌, sym, ap, ◌∙◌, ap₂, arith}
 use Rattle.std.proofs.lemmas.Bool.{eq-eqb, ne_eqb}
 use Rattle.networks.proofs.Numbers.{past_nth}
 use Rattle.contents.specs.Content.{steps_in, net_of, answer_of}
@@ -18,11 +18,11 @@ loop-k-preserved g c =
     let bs = c.args.self.now.bytes.now in
     walk_more k (net_of k bs) c.args.total (steps_in (answer_of k bs)) c.loop-k.k c.loop-k.station c.loop-k.cost c.in-Some.step c.in-Some.ensures c.if-not-right.ensures ∙ c.loop-k.invariant
 
-pub returns-in-default : goal.returns-in-default
-returns-in-default g c =
+pub returns-in_default : goal.returns-in_default
+returns-in_default g c =
     let k = g.C.Cost in
     let steps = steps_in (answer_of k c.args.self.now.bytes.now) in
-    absurd (omega (arith, past_nth steps c.loop-k.k c.in-default.ensures, c.requires))
+    absurd (omega (arith, past_nth steps c.loop-k.k c.in_default.ensures, c.requires))
 
 pub returns-then-not-right : goal.returns-then-not-right
 returns-then-not-right g c =
