@@ -1,4 +1,6 @@
 //! Worked cases, as tests.
+#![tactic(auto)]
+
 #[cfg(test)]
 mod amounts_tests;
 #[cfg(test)]

@@ -13,7 +13,7 @@ use Rattle.contents.specs.Content.{Meant, Content}
 use Rattle.contents.specs.Encoding.{section_record, estimate_record, step_record, answer_record, header_record, answer_encoded, encode, Valid, PageLaws}
 use Rattle.records.specs.Due.{page_fault}
 use Rattle.faults.specs.declared.Refusal.TheVariants.{EstimateCount, PageTooShort}
-use Rattle.contents.specs.Writing.{answer_size, needed, answer_fault, write_fault, written_by}
+use Rattle.contents.specs.Writing.{answer_size, needed, answer_fault, write_fault, refused_by, written_by, write_of}
 use Rattle.contents.proofs.Forming.{section_laws, estimate_laws}
 use Rattle.contents.proofs.Overlays.{overlay_none, overlay_more, overlay_front, overlay_five}
 use Rattle.contents.proofs.Returning.{written_reads, answer_length, encode_length}
@@ -59,6 +59,20 @@ module _ {C L S : Type 0} (c : cost.Ghosts C L S) where
         overlay_five page (encoded header_shape (header_record c x.network)) (encoded_run section_shape ss) (encoded_run estimate_shape es) (answer_encoded c x.answer) (encoded end_shape (record {})) 10 pairs after end
         p₁ p₂ p₃ p₄ p₅ refl (omega arith) (omega arith) (omega arith) room
         ∙ overlay_front page (encode c x)
+
+    -- what is answered, by the fault of what is refused
+    pub written_is : written_by c page x (write_fault c (length page) x) ≡ write_of c page x
+    written_is = go (eqb (length x.estimates) x.network.stations) (ltb (length page) (needed x))
+      where
+        inner : Option Fault
+        inner = answer_fault c x.network (10 + 12 * length x.network.sections + 21 * length x.estimates) x.answer
+
+        go : (a b : Bool)
+            → written_by c page x (cond a (cond b (Some (page_fault (PageTooShort (needed x)))) inner) (Some (page_fault (EstimateCount (length x.estimates)))))
+            ≡ cond a (cond b (refused_by c page (page_fault (PageTooShort (needed x)))) (written_by c page x inner)) (refused_by c page (page_fault (EstimateCount (length x.estimates))))
+        go true true = refl
+        go true false = refl
+        go false b = refl
 
     -- where nothing is refused, the estimates count the stations, there is room, and a page can hold the answer
     pub nothing_refused : (room : ℕ) → write_fault c room x ≡ None

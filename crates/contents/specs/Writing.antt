@@ -74,18 +74,26 @@ module _ {C L S : Type 0} (c : cost.Ghosts C L S) where
     pub answer : Result ℕ Fault
     pub page : List ℕ
 
+  abbrev pub refused_by : List ℕ → Fault → Written
+  refused_by page f = record { answer = Err f; page = page }
+
   -- the first bytes are the content's, and the rest stands
   abbrev pub written_by : List ℕ → Content L S → Option Fault → Written
-  written_by page x (Some f) = record { answer = Err f; page = page }
+  written_by page x (Some f) = refused_by page f
   written_by page x None = record { answer = Ok (length (encode c x)); page = encode c x ++ drop (length (encode c x)) page }
 
-  -- what is refused: other stations than the network's, then too short a page, then a field that a page cannot hold
+  -- other stations than the network's, then too short a page, then a field that a page cannot hold
+  abbrev pub write_of : List ℕ → Content L S → Written
+  write_of page x =
+      cond (length x.estimates == x.network.stations)
+      (cond (nat_lt (length page) (needed x)) (refused_by page (page_fault (PageTooShort (needed x))))
+      (written_by page x (answer_fault x.network (10 + 12 * length x.network.sections + 21 * length x.estimates) x.answer)))
+      (refused_by page (page_fault (EstimateCount (length x.estimates))))
+
+  -- the fault alone of what is refused, on a page of so many bytes
   abbrev pub write_fault : ℕ → Content L S → Option Fault
   write_fault room x =
       cond (length x.estimates == x.network.stations)
       (cond (nat_lt room (needed x)) (Some (page_fault (PageTooShort (needed x))))
       (answer_fault x.network (10 + 12 * length x.network.sections + 21 * length x.estimates) x.answer))
       (Some (page_fault (EstimateCount (length x.estimates))))
-
-  abbrev pub write_of : List ℕ → Content L S → Written
-  write_of page x = written_by page x (write_fault (length page) x)

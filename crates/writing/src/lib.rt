@@ -1,4 +1,6 @@
 //! Writing a page: any network, any estimates and perhaps an answer.
+#![tactic(auto)]
+
 mod bodies;
 mod holds;
 mod rows;
