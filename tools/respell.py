@@ -19,6 +19,7 @@ again-of again_of
 all-counting all_counting
 all-good all_good
 all-nth all_nth
+alongOf along_of
 amount-range amount_range
 amountOf amount_of
 answer-absent answer_absent
@@ -250,6 +251,7 @@ range-twin range_twin
 rangedFrom ranged_from
 rateFits rate_fits
 recordIn record_in
+refusedBy refused_by
 refusedLine refused_line
 reportOf report_of
 retold-page retold_page
@@ -270,6 +272,7 @@ run-stops run_stops
 run-valid run_valid
 run-written run_written
 same-eq same_eq
+sameAs same_as
 sameForm same_form
 samples-kept samples_kept
 samplesIn samples_in
@@ -282,6 +285,7 @@ section-good section_good
 section-laws section_laws
 section-range section_range
 section-turns section_turns
+sectionBy section_by
 sectionBytes section_bytes
 sectionCount section_count
 sectionForm section_form
@@ -349,6 +353,7 @@ within-shut within_shut
 worthIn worth_in
 write-back write_back
 write-left write_left
+write-refused write_refused
 writeFault write_fault
 writeOf write_of
 written-reads written_reads

@@ -1,6 +1,6 @@
 -- The form that amounts have on a page: valve moves and samples.
 use Rattle.std.specs.Prelude.{◌≡◌, ℕ, ◌^◌, ◌<◌, ◌≤◌, Bool, cond, not, ◌&&◌, ◌||◌, List, length, is_some, Some, None, Option, ◌==◌, nat_lt}
-use Rattle.std.specs.List.{AllByRecursion as All}
+use Rattle.std.specs.List.{AllByRecursion}
 use Rattle.amounts.specs.Amount.{Ops, Le, SectionFit, total}
 use Rattle.amounts.specs.declared.cost.LabelForm.{LabelForm}
 use Rattle.amounts.specs.declared.cost.SectionForm.{SectionForm}
@@ -63,7 +63,7 @@ OnPage shown a = (f : LabelForm) × (shown a ≡ Some f)
 -- The cost of a route of at most 4,095 sections stands on a page.
 abbrev pub TotalsOnPage : {L S : Type 0} → Ops L → (S → L) → (S → SectionForm) → (L → Option LabelForm) → Type 0
 TotalsOnPage {S = S} o worth parts shown =
-    (ss : List S) → All (λ s. SectionRange (parts s)) ss → length ss ≤ 4095 → OnPage shown (total o worth ss)
+    (ss : List S) → AllByRecursion (λ s. SectionRange (parts s)) ss → length ss ≤ 4095 → OnPage shown (total o worth ss)
 
 -- The amount that a page gives a section: absent where the kind has none of this form.
 abbrev pub told_section : {S : Type 0} → (S → SectionForm) → (SectionForm → S) → SectionForm → Option S

@@ -1,5 +1,5 @@
 -- How many samples a length of pipe takes.
-use Rattle.std.specs.Prelude.{ℕ, ◌+◌, ◌*◌, ◌/◌, ◌≤◌, Bool, ◌||◌, [], ◌∷◌, Ok, Err, Result, ◌==◌, nat_le}
+use Rattle.std.specs.Prelude.{ℕ, ◌+◌, ◌*◌, ◌/◌, ◌≤◌, Bool, ◌||◌, [], ◌∷◌, Result, ◌==◌, nat_le}
 use Rattle.faults.specs.Faults.{ranged}
 use Rattle.faults.specs.declared.Fault.{Fault}
 
@@ -21,7 +21,3 @@ samples_of length rate = ranged (length_fits length ∷ rate_fits rate ∷ []) (
 pub record Covers (length rate n : ℕ) : Type 0 where
   pub enough : length * rate ≤ n * 1000
   pub least : (m : ℕ) → length * rate ≤ m * 1000 → n ≤ m
-
-abbrev pub OnOk : {A : Type 0} → Result A Fault → (A → Type 0) → Type 0
-OnOk (Ok a) P = P a
-OnOk (Err e) P = Unit {0}

@@ -3,7 +3,7 @@ use Rattle.std.specs.Prelude.{◌≡◌, ℕ, ◌+◌, ◌*◌, ◌^◌, ◌<◌
 use Rattle.std.proofs.Common.{ap, ap₂, ◌∙◌}
 use Rattle.std.proofs.Math.Nat.{suc-mul}
 use native.Mathlib.Omega.{arith}
-use Rattle.std.specs.List.{AllByRecursion as All}
+use Rattle.std.specs.List.{AllByRecursion}
 use Rattle.std.proofs.lemmas.Bool.{lt-ltb}
 use Rattle.amounts.specs.Amount.{total}
 use Rattle.amounts.specs.Forms.{SectionRange, TotalsOnPage, label_form}
@@ -16,7 +16,7 @@ sum_of part [] = 0
 sum_of part (x ∷ xs) = part x + sum_of part xs
 
 module _ {X : Type 0} (part : X → ℕ) (fair : X → Type 0) (limit : ℕ) (below : (x : X) → fair x → part x < limit) where
-  bounded : (xs : List X) → All fair xs → sum_of part xs ≤ length xs * limit
+  bounded : (xs : List X) → AllByRecursion fair xs → sum_of part xs ≤ length xs * limit
   unfolding sum_of
   bounded [] h = omega arith
   bounded (x ∷ xs) h = let p = below x h.0 in let q = bounded xs h.1 in let e = suc-mul (length xs) limit in omega arith

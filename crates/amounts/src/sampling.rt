@@ -1,6 +1,6 @@
 //! How many samples a length of pipe takes.
-ghost use Rattle.std.specs.Prelude.{◌≡◌};
-ghost use Rattle.amounts.specs.Sampling.{length_fits, rate_fits, samples_of, Covers, OnOk};
+ghost use Rattle.std.specs.Prelude.{◌≡◌, IfOk};
+ghost use Rattle.amounts.specs.Sampling.{length_fits, rate_fits, samples_of, Covers};
 
 use faults::{Fault, out_of_range};
 
@@ -24,7 +24,7 @@ pub fn rate_fits(rate: u64) -> bool
 /// The samples in a length in millimetres, at a rate per metre, rounded up.
 pub fn samples_of(length: u64, rate: u64) -> Result<u32, Fault>
     ensures exact { result ≡ samples_of length rate }
-    ensures covers { OnOk result (Covers length rate) }
+    ensures covers { IfOk result (Covers length rate) }
 {
     if !length_fits(length) {
         return Err(out_of_range(0));

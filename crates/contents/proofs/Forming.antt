@@ -1,6 +1,6 @@
 -- The records of a page, to what they mean and back.
 use Rattle.std.proofs.Common.{◌≡◌, ℕ, zero, suc, ◌*◌, ◌^◌, ◌<◌, ◌≤◌, Bool, true, false, cond, ◌&&◌, ◌||◌, eqb, ltb, leb, List, [], ◌∷◌, ◌++◌, map, length, drop, Some, None, Ok, Option, sym, refl, ap, ◌∙◌, ap₂, arith, lit<, lit≤}
-use Rattle.std.specs.List.{AllByRecursion as All, slice_get}
+use Rattle.std.specs.List.{AllByRecursion, slice_get}
 use Rattle.std.specs.Option.{is_some}
 use Rattle.std.proofs.lemmas.List.{length-map, drop_at, take-append-drop, nil_from_length}
 use Rattle.std.proofs.ByRecursion.{All-weaker, All-map}
@@ -63,18 +63,18 @@ pub record Turns {R M : Type 0} (shape : Shape R) (limits : Limits) (to : M → 
 -- So do runs of them.
 module _ {R M : Type 0} {shape : Shape R} {limits : Limits} {to : M → R} {from : R → M} {V : M → Type 0} (laws : ShapeLaws shape) (turns : Turns shape limits to from V) where
   abbrev FitsAll : List R → Type 0
-  FitsAll rs = All (λ r. Fits shape.widths (shape.fields r)) rs
+  FitsAll rs = AllByRecursion (λ r. Fits shape.widths (shape.fields r)) rs
 
   abbrev GoodAll : List R → Type 0
-  GoodAll rs = All (λ r. shape.good limits r ≡ true) rs
+  GoodAll rs = AllByRecursion (λ r. shape.good limits r ≡ true) rs
 
-  all_fit : (ms : List M) → All V ms → FitsAll (map to ms)
+  all_fit : (ms : List M) → AllByRecursion V ms → FitsAll (map to ms)
   all_fit ms v = All-map (λ r. Fits shape.widths (shape.fields r)) to ms (All-weaker V (λ m. Fits shape.widths (shape.fields (to m))) turns.fits ms v)
 
-  all_good : (ms : List M) → All V ms → GoodAll (map to ms)
+  all_good : (ms : List M) → AllByRecursion V ms → GoodAll (map to ms)
   all_good ms v = All-map (λ r. shape.good limits r ≡ true) to ms (All-weaker V (λ m. shape.good limits (to m) ≡ true) turns.good ms v)
 
-  all_there : (ms : List M) → All V ms → map from (map to ms) ≡ ms
+  all_there : (ms : List M) → AllByRecursion V ms → map from (map to ms) ≡ ms
   all_there [] v = refl
   all_there (m ∷ ms) v = ap₂ (λ y ys. y ∷ ys) (turns.there m v.0) (all_there ms v.1)
 
@@ -82,17 +82,17 @@ module _ {R M : Type 0} {shape : Shape R} {limits : Limits} {to : M → R} {from
   all_back [] f g = refl
   all_back (r ∷ rs) f g = ap₂ (λ y ys. y ∷ ys) (turns.back r f.0 g.0) (all_back rs f.1 g.1)
 
-  all_valid : (rs : List R) → FitsAll rs → GoodAll rs → All V (map from rs)
+  all_valid : (rs : List R) → FitsAll rs → GoodAll rs → AllByRecursion V (map from rs)
   all_valid [] f g = tt
   all_valid (r ∷ rs) f g = (turns.valid r f.0 g.0, all_valid rs f.1 g.1)
 
   -- a run that is written passes, is read, and is passed over
-  pub run_passes : (len n : ℕ) (ms : List M) (rest : List ℕ) → length ms ≡ n → All V ms → due_run shape limits len n (encoded_run shape (map to ms) ++ rest) ≡ Ok tt
+  pub run_passes : (len n : ℕ) (ms : List M) (rest : List ℕ) → length ms ≡ n → AllByRecursion V ms → due_run shape limits len n (encoded_run shape (map to ms) ++ rest) ≡ Ok tt
   run_passes len n ms rest e v =
       ap (λ k. due_run shape limits len k (encoded_run shape (map to ms) ++ rest)) (sym (length-map ms to ∙ e))
       ∙ run_written shape laws limits len (map to ms) rest (all_fit ms v) (all_good ms v)
 
-  pub run_reads : (n : ℕ) (ms : List M) (rest : List ℕ) → length ms ≡ n → All V ms → map from (decoded_run shape n (encoded_run shape (map to ms) ++ rest)) ≡ ms
+  pub run_reads : (n : ℕ) (ms : List M) (rest : List ℕ) → length ms ≡ n → AllByRecursion V ms → map from (decoded_run shape n (encoded_run shape (map to ms) ++ rest)) ≡ ms
   run_reads n ms rest e v =
       ap (λ k. map from (decoded_run shape k (encoded_run shape (map to ms) ++ rest))) (sym (length-map ms to ∙ e))
       ∙ ap (map from) (run_decoded shape laws (map to ms) rest (all_fit ms v)) ∙ all_there ms v
@@ -102,7 +102,7 @@ module _ {R M : Type 0} {shape : Shape R} {limits : Limits} {to : M → R} {from
 
   -- a run that passed is valid, and is written as it stood
   module _ (n : ℕ) (bs : List ℕ) (all : Bytes bs) (stands : RunStands shape limits n bs) where
-    pub run_valid : All V (map from (decoded_run shape n bs))
+    pub run_valid : AllByRecursion V (map from (decoded_run shape n bs))
     run_valid = all_valid (decoded_run shape n bs) (run_fits shape laws n bs all) stands.good
 
     pub run_back : encoded_run shape (map to (map from (decoded_run shape n bs))) ++ drop (size_of shape * n) bs ≡ bs
@@ -347,7 +347,7 @@ module _ {C L S : Type 0} (c : cost.Ghosts C L S) (laws : PageLaws c) where
           ap₂ (λ o f. record { run = a.run; outcome = o; moves = f.moves; samples = f.samples; steps = length (map (step_from c sections) steps); taken = a.taken }) (number_outcome a.outcome r.0) r.1.form
           ∙ ap (λ n. record { run = a.run; outcome = a.outcome; moves = a.moves; samples = a.samples; steps = n; taken = a.taken }) (length-map steps (step_from c sections) ∙ count)
 
-      pub answer_valid : (net : Net S) → net.stations ≡ h.stations → All (StepValid c net.sections) (map (step_from c net.sections) steps) → MeantValid c net (meant_by c net.sections a steps)
+      pub answer_valid : (net : Net S) → net.stations ≡ h.stations → AllByRecursion (StepValid c net.sections) (map (step_from c net.sections) steps) → MeantValid c net (meant_by c net.sections a steps)
       answer_valid net e each =
           let r = answer_read in
           let n : length (map (step_from c net.sections) steps) ≡ a.steps = length-map steps (step_from c net.sections) ∙ count in

@@ -1,6 +1,6 @@
 -- An answer without a fault is one that a page can hold.
 use Rattle.std.proofs.Common.{◌≡◌, ℕ, ◌+◌, ◌*◌, ◌^◌, ◌<◌, ◌≤◌, Bool, true, false, cond, ◌&&◌, eqb, ltb, leb, List, [], ◌∷◌, length, get_or, drop, is_some, Some, None, Option, sym, refl, ap, ◌∙◌, ap₂, arith}
-use Rattle.std.specs.List.{AllByRecursion as All, slice_get}
+use Rattle.std.specs.List.{AllByRecursion, slice_get}
 use Rattle.std.proofs.ByRecursion.{All-weaker}
 use Rattle.std.proofs.lemmas.List.{drop_more, drop_all, nil_from_length}
 use Rattle.std.proofs.lemmas.Bool.{false≢true, and_parts, eqb-true, ltb-true, leb-true}
@@ -65,7 +65,7 @@ module _ {C L S : Type 0} (c : cost.Ghosts C L S) (net : Net S) where
           let q = and_parts (eqb s.from x.from) (eqb s.to x.to) p.0 in
           record { section = x; there = there; from = eqb-true _ _ q.0; to = eqb-true _ _ q.1; cost = on_page s.so_far p.1 }
 
-  steps_valid : (at : ℕ) (ss : List (Step L)) → steps_fault c net at ss ≡ None → All (StepValid c net.sections) ss
+  steps_valid : (at : ℕ) (ss : List (Step L)) → steps_fault c net at ss ≡ None → AllByRecursion (StepValid c net.sections) ss
   steps_valid at [] e = tt
   steps_valid at (s ∷ ss) e =
       let p = none_left (step_good c net s) (steps_fault c net (at + 13) ss) _ e in

@@ -1,6 +1,6 @@
 -- Lists of records seen through what they tell.
 use Rattle.std.proofs.Common.{◌≡◌, ℕ, zero, suc, eqb, List, [], ◌∷◌, map, Some, None, sym, refl, ap, ◌∙◌, subst, arith}
-use Rattle.std.specs.List.{AllByRecursion as All, slice_get}
+use Rattle.std.specs.List.{AllByRecursion, slice_get}
 use Rattle.faults.specs.declared.Side.{Side}
 use Rattle.faults.specs.declared.Side.TheVariants.{Forward, Backward}
 use Rattle.amounts.specs.declared.cost.Cost as cost
@@ -22,7 +22,7 @@ pub mapped_none : {X Y : Type 0} (f : X → Y) (xs : List X) (i : ℕ) → None 
 mapped_none f xs i e = ap (on_some f) e ∙ sym (nth-map f xs i)
 
 -- what holds of each element
-pub all_nth : {X : Type 0} (P : X → Type 0) (xs : List X) (i : ℕ) (x : X) → Some x ≡ slice_get xs i → All P xs → P x
+pub all_nth : {X : Type 0} (P : X → Type 0) (xs : List X) (i : ℕ) (x : X) → Some x ≡ slice_get xs i → AllByRecursion P xs → P x
 all_nth P [] i x e a = let z : ◌≡◌ {A = ℕ} 0 1 = cc in absurd (omega arith)
 all_nth P (y ∷ ys) zero x e a = let same : y ≡ x = cc in subst P same a.0
 all_nth P (y ∷ ys) (suc i) x e a = all_nth P ys i x e a.1

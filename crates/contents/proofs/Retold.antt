@@ -1,6 +1,6 @@
 -- What retracing says of an accepted page, in the words of routes and costs.
 use Rattle.std.proofs.Common.{◌≡◌, ℕ, zero, suc, ◌^◌, ◌<◌, ◌≤◌, Bool, true, false, cond, ◌↔◌, List, [], ◌∷◌, map, length, take, Some, None, Option, sym, refl, ap, ◌∙◌, arith}
-use Rattle.std.specs.List.{AllByRecursion as All, slice_get}
+use Rattle.std.specs.List.{AllByRecursion, slice_get}
 use Rattle.std.proofs.lemmas.Bool.{false≢true}
 use Rattle.amounts.specs.declared.cost.Cost as cost
 use Rattle.amounts.specs.Amount.{Laws}
@@ -21,7 +21,7 @@ use Rattle.contents.specs.Retracing.{sections_of, walked, walks, retraced, Retra
 use Rattle.contents.proofs.Answers.{meaning, meaning_steps}
 use Rattle.contents.proofs.Routing.{Ends, walks_right, right_walks}
 
-all_nth : {X : Type 0} (P : X → Type 0) (xs : List X) (k : ℕ) (x : X) → All P xs → slice_get xs k ≡ Some x → P x
+all_nth : {X : Type 0} (P : X → Type 0) (xs : List X) (k : ℕ) (x : X) → AllByRecursion P xs → slice_get xs k ≡ Some x → P x
 all_nth P [] k x h e = absurd (let z : ◌≡◌ {A = ℕ} 0 1 = cc in omega arith)
 all_nth P (y ∷ ys) zero x h e = let z : y ≡ x = cc in rw (sym z) h.0
 all_nth P (y ∷ ys) (suc k) x h e = all_nth P ys k x h.1 e

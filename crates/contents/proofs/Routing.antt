@@ -1,6 +1,6 @@
 -- Steps that are walked to the end are a route, and every cost that they show is right.
 use Rattle.std.proofs.Common.{◌≡◌, ℕ, zero, suc, ◌+◌, ◌*◌, ◌^◌, ◌<◌, ◌≤◌, Bool, true, false, cond, not, ◌&&◌, eqb, List, [], ◌∷◌, length, take, Some, None, Option, sym, refl, ap, ◌∙◌, subst, arith}
-use Rattle.std.specs.List.{AllByRecursion as All, slice_get}
+use Rattle.std.specs.List.{AllByRecursion, slice_get}
 use Rattle.std.proofs.lemmas.Bool.{and_parts, eqb-true, eq-eqb, le-leb, false≢true}
 use Rattle.amounts.specs.declared.cost.Cost as cost
 use Rattle.amounts.specs.Amount.{Laws, computed}
@@ -29,7 +29,7 @@ module _ {C L S : Type 0} (c : cost.Ghosts C L S) (laws : Laws c.ops) (net : Net
 
   -- the steps name their sections' ends
   abbrev pub Ends : List (Step L) → Type 0
-  Ends steps = All (λ s. (x : Section S) → slice_get net.sections s.section ≡ Some x → s.to ≡ x.to) steps
+  Ends steps = AllByRecursion (λ s. (x : Section S) → slice_get net.sections s.section ≡ Some x → s.to ≡ x.to) steps
 
   -- a step that is right
   pub record Open (u : ℕ) (a : L) (s : Step L) : Type 0 where

@@ -1,7 +1,7 @@
 -- What a write leaves on the page, and that it reads back.
-use Rattle.std.proofs.Common.{◌≡◌, ℕ, ◌+◌, ◌*◌, ◌≤◌, Bool, true, false, cond, eqb, ltb, List, ◌++◌, map, length, take, drop, Some, None, Ok, Option, sym, refl, ap, ◌∙◌, ap₂, arith}
+use Rattle.std.proofs.Common.{◌≡◌, ℕ, ◌+◌, ◌*◌, ◌≤◌, Bool, true, false, cond, eqb, ltb, List, ◌++◌, map, length, take, drop, Some, None, Ok, Err, Option, sym, refl, ap, ◌∙◌, ap₂, arith}
 use Rattle.std.proofs.lemmas.List.{length-map, take_at}
-use Rattle.std.proofs.lemmas.Bool.{eqb-true, ltb-false}
+use Rattle.std.proofs.lemmas.Bool.{eqb-true, eq-eqb, ltb-false, le-ltb}
 use Rattle.faults.specs.declared.Fault.{Fault}
 use Rattle.amounts.specs.declared.cost.Cost as cost
 use Rattle.records.specs.Bytes.{overlay}
@@ -13,7 +13,7 @@ use Rattle.contents.specs.Content.{Meant, Content}
 use Rattle.contents.specs.Encoding.{section_record, estimate_record, step_record, answer_record, header_record, answer_encoded, encode, Valid, PageLaws}
 use Rattle.records.specs.Due.{page_fault}
 use Rattle.faults.specs.declared.Refusal.TheVariants.{EstimateCount, PageTooShort}
-use Rattle.contents.specs.Writing.{answer_size, needed, answer_fault, write_fault, refused_by, written_by, write_of}
+use Rattle.contents.specs.Writing.{answer_size, needed, answer_fault, write_fault, write_of}
 use Rattle.contents.proofs.Forming.{section_laws, estimate_laws}
 use Rattle.contents.proofs.Overlays.{overlay_none, overlay_more, overlay_front, overlay_five}
 use Rattle.contents.proofs.Returning.{written_reads, answer_length, encode_length}
@@ -60,19 +60,25 @@ module _ {C L S : Type 0} (c : cost.Ghosts C L S) where
         p₁ p₂ p₃ p₄ p₅ refl (omega arith) (omega arith) (omega arith) room
         ∙ overlay_front page (encode c x)
 
-    -- what is answered, by the fault of what is refused
-    pub written_is : written_by c page x (write_fault c (length page) x) ≡ write_of c page x
-    written_is = go (eqb (length x.estimates) x.network.stations) (ltb (length page) (needed x))
+    -- what is answered where a page cannot hold the answer
+    pub write_refused : (f : Fault) → length x.estimates ≡ x.network.stations → needed x ≤ length page
+        → answer_fault c x.network (10 + 12 * length x.network.sections + 21 * length x.estimates) x.answer ≡ Some f
+        → record { answer = Err f; page = page } ≡ write_of c page x
+    write_refused f counted room bad = rw (eq-eqb _ _ counted, le-ltb _ _ room, bad)
+
+    -- what is answered for any fault
+    pub write_faulty : (f : Fault) → write_fault c (length page) x ≡ Some f → record { answer = Err f; page = page } ≡ write_of c page x
+    write_faulty f some = go (eqb (length x.estimates) x.network.stations) refl (ltb (length page) (needed x)) refl some
       where
         inner : Option Fault
         inner = answer_fault c x.network (10 + 12 * length x.network.sections + 21 * length x.estimates) x.answer
 
-        go : (a b : Bool)
-            → written_by c page x (cond a (cond b (Some (page_fault (PageTooShort (needed x)))) inner) (Some (page_fault (EstimateCount (length x.estimates)))))
-            ≡ cond a (cond b (refused_by c page (page_fault (PageTooShort (needed x)))) (written_by c page x inner)) (refused_by c page (page_fault (EstimateCount (length x.estimates))))
-        go true true = refl
-        go true false = refl
-        go false b = refl
+        go : (a : Bool) → eqb (length x.estimates) x.network.stations ≡ a → (b : Bool) → ltb (length page) (needed x) ≡ b
+            → cond a (cond b (Some (page_fault (PageTooShort (needed x)))) inner) (Some (page_fault (EstimateCount (length x.estimates)))) ≡ Some f
+            → record { answer = Err f; page = page } ≡ write_of c page x
+        go true e false h n = write_refused f (eqb-true _ _ e) (ltb-false _ _ h) n
+        go true e true h n = rw (e, h) (cc)
+        go false e b h n = rw e (cc)
 
     -- where nothing is refused, the estimates count the stations, there is room, and a page can hold the answer
     pub nothing_refused : (room : ℕ) → write_fault c room x ≡ None
@@ -95,8 +101,11 @@ module _ {C L S : Type 0} (c : cost.Ghosts C L S) where
       encoded_size = omega (arith, encode_length c x, answer_size_lem x.answer)
 
       -- what is answered where nothing is refused
-      pub write_left : record { answer = Ok n; page = after } ≡ written_by c page x None
-      write_left = ap₂ (λ k l. record { answer = Ok k; page = l }) encoded_size stands
+      pub write_left : length x.estimates ≡ x.network.stations → needed x ≤ length page
+          → answer_fault c x.network (10 + 12 * length x.network.sections + 21 * length x.estimates) x.answer ≡ None
+          → record { answer = Ok n; page = after } ≡ write_of c page x
+      write_left counted room good =
+          rw (eq-eqb _ _ counted, le-ltb _ _ room, good) (ap₂ (λ k l. record { answer = Ok k; page = l }) encoded_size stands)
 
       pub write_back : PageLaws c → Valid c x → Back c x (take n after)
       write_back laws v =

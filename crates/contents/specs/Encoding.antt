@@ -1,6 +1,6 @@
 -- The bytes of a page's content, and which contents a page can hold.
 use Rattle.std.specs.Prelude.{◌≡◌, ℕ, ◌^◌, ◌<◌, ◌≤◌, cond, List, [], ◌++◌, map, length, Some, None, Option}
-use Rattle.std.specs.List.{AllByRecursion as All, slice_get}
+use Rattle.std.specs.List.{AllByRecursion, slice_get}
 use Rattle.amounts.specs.declared.cost.Cost as cost
 use Rattle.amounts.specs.declared.cost.LabelForm.{LabelForm}
 use Rattle.amounts.specs.Forms.{label_form, OnPage, SectionLaws, LabelLaws, KindLaws}
@@ -84,7 +84,7 @@ module _ {C L S : Type 0} (c : cost.Ghosts C L S) where
     pub few : length m.steps ≤ 4095
     pub taken : m.taken < net.stations
     pub nothing : NothingAt m.outcome m.cost m.steps
-    pub each : All (StepValid net.sections) m.steps
+    pub each : AllByRecursion (StepValid net.sections) m.steps
 
   abbrev pub AnswerValid : Net S → Option (Meant L) → Type 0
   AnswerValid net None = Unit {0}

@@ -1,6 +1,6 @@
 -- What is answered when a page is written, and what the page then holds.
 use Rattle.std.specs.Prelude.{ℕ, ◌+◌, ◌-◌, ◌*◌, ◌^◌, ◌<◌, min, Bool, true, false, cond, ◌&&◌, List, [], ◌∷◌, ◌++◌, length, drop, is_some, Some, None, Ok, Err, Option, Result, ◌==◌, nat_le, nat_lt}
-use Rattle.std.specs.List.{AllByRecursion as All, slice_get}
+use Rattle.std.specs.List.{AllByRecursion, slice_get}
 use Rattle.faults.specs.declared.Fault.{Fault}
 use Rattle.faults.specs.declared.Refusal.TheVariants.{EstimateCount, PageTooShort, FieldOutOfRange}
 use Rattle.amounts.specs.declared.cost.Cost as cost
@@ -40,7 +40,7 @@ RunFits (Some m) = m.run < 2 ^ 32
 -- an answer whose numbers have two bytes each
 abbrev pub Short : {L : Type 0} → Option (Meant L) → Type 0
 Short None = Unit {0}
-Short (Some m) = (m.taken < 2 ^ 16) × (length m.steps < 2 ^ 16) × All (λ s. s.section < 2 ^ 16) m.steps
+Short (Some m) = (m.taken < 2 ^ 16) × (length m.steps < 2 ^ 16) × AllByRecursion (λ s. s.section < 2 ^ 16) m.steps
 
 module _ {C L S : Type 0} (c : cost.Ghosts C L S) where
   -- the section is there, with these ends

@@ -1,6 +1,6 @@
 -- What a network with sections shut keeps of the one below.
 use Rattle.std.proofs.Common.{◌≡◌, ℕ, zero, suc, ◌+◌, Bool, cond, List, [], ◌∷◌, length, Some, refl, ap, ◌∙◌, arith}
-use Rattle.std.specs.List.{AllByRecursion as All, slice_get}
+use Rattle.std.specs.List.{AllByRecursion, slice_get}
 use Rattle.amounts.specs.declared.cost.SectionForm.{SectionForm}
 use Rattle.faults.specs.declared.Side.{Side}
 use Rattle.faults.specs.declared.Side.TheVariants.{Forward, Backward}
@@ -33,7 +33,7 @@ module _ {A : Type 0} (kept : List ℕ) where
   pub nth_shut : (i : ℕ) (ss : List (Section A)) → slice_get (shut_from kept 0 ss) i ≡ on_some (shut_if (has kept i)) (slice_get ss i)
   nth_shut i ss = nth_from 0 i i ss (omega arith)
 
-  within_shut : (parts : A → SectionForm) (stations n : ℕ) (ss : List (Section A)) → All (SectionInRange parts stations) ss → All (SectionInRange parts stations) (shut_from kept n ss)
+  within_shut : (parts : A → SectionForm) (stations n : ℕ) (ss : List (Section A)) → AllByRecursion (SectionInRange parts stations) ss → AllByRecursion (SectionInRange parts stations) (shut_from kept n ss)
   within_shut parts stations n [] h = tt
   within_shut parts stations n (s ∷ ss) h = (record { from = h.0.from; to = h.0.to; amount = h.0.amount }, within_shut parts stations (n + 1) ss h.1)
 

@@ -1,6 +1,6 @@
 -- What a source of estimates means.
 use Rattle.std.specs.Prelude.{List, Option}
-use Rattle.std.specs.List.{AllByRecursion as All}
+use Rattle.std.specs.List.{AllByRecursion}
 use Rattle.amounts.specs.Forms.{OnPage}
 use Rattle.amounts.specs.declared.cost.LabelForm.{LabelForm}
 use Rattle.networks.specs.declared.estimates.Pair.{Pair}
@@ -11,4 +11,4 @@ pub record PairInRange {L : Type 0} (shown : L → Option LabelForm) (p : Pair L
   pub backward : OnPage shown p.backward
 
 abbrev pub GivenInRange : {L : Type 0} → (L → Option LabelForm) → List (Pair L) → Type 0
-GivenInRange shown given = All (PairInRange shown) given
+GivenInRange shown given = AllByRecursion (PairInRange shown) given

@@ -1,6 +1,6 @@
 -- What a network means, and what its questions ask of that meaning.
 use Rattle.std.specs.Prelude.{◌≡◌, ℕ, ◌+◌, ◌<◌, ◌≤◌, Bool, true, cond, List, [], ◌∷◌, length, Some, ◌==◌}
-use Rattle.std.specs.List.{AllByRecursion as All, slice_get}
+use Rattle.std.specs.List.{AllByRecursion, slice_get}
 use Rattle.amounts.specs.Forms.{SectionRange}
 use Rattle.amounts.specs.declared.cost.SectionForm.{SectionForm}
 use Rattle.faults.specs.declared.Side.{Side}
@@ -28,7 +28,7 @@ pub record InRange {S : Type 0} (parts : S → SectionForm) (net : Net S) : Type
   pub launcher : net.launcher < net.stations
   pub trap : net.trap < net.stations
   pub short : length net.sections ≤ 16384
-  pub each : All (SectionInRange parts net.stations) net.sections
+  pub each : AllByRecursion (SectionInRange parts net.stations) net.sections
 
 -- Leaving and entering -----------------------------------------------------------------------
 

@@ -2,7 +2,7 @@
 ghost use Rattle.std.specs.Prelude.{◌≡◌, true, ◌↔◌, length};
 ghost use Rattle.std.specs.List.{slice_get};
 ghost use Rattle.contents.specs.Content.{steps_in, net_of, answer_of};
-ghost use Rattle.contents.specs.Retracing.{RetracedIn, retraced, walks, same as sameAs, step_right};
+ghost use Rattle.contents.specs.Retracing.{RetracedIn, retraced, walks, same as same_as, step_right};
 
 use crate::view::PageView;
 use amounts::cost::Cost;
@@ -11,7 +11,7 @@ use networks::network::Network;
 
 /// Whether two amounts are one.
 fn same<C: Cost>(a: C::Label, b: C::Label) -> bool
-    ensures { result ≡ sameAs C.Cost a b }
+    ensures { result ≡ same_as C.Cost a b }
 {
     C::at_most(a, b) && C::at_most(b, a)
 }

@@ -1,6 +1,6 @@
 -- Records and runs of them, to bytes and back, and what stands where one passed.
 use Rattle.std.proofs.Common.{◌≡◌, ℕ, zero, suc, ◌+◌, ◌*◌, ◌<◌, ◌≤◌, Bool, true, false, cond, eqb, ltb, List, [], ◌∷◌, ◌++◌, length, get_or, take, drop, Some, None, Ok, Err, Result, sym, refl, ap, ◌∙◌, ap₂, append_assoc, mul-zero, mul-suc, arith, length-append, length-drop, drop-drop, take-add, drop_at}
-use Rattle.std.specs.List.{AllByRecursion as All, slice_get}
+use Rattle.std.specs.List.{AllByRecursion, slice_get}
 use Rattle.std.proofs.ByRecursion.{All-append, All-drop}
 use Rattle.std.proofs.lemmas.Option.{slice_get_past}
 use Rattle.std.proofs.lemmas.Bool.{le-ltb, eq-eqb, ltb-false, eqb-true}
@@ -48,7 +48,7 @@ module _ {R : Type 0} (shape : Shape R) where
   pub record RunStands (limits : Limits) (n : ℕ) (bs : List ℕ) : Type 0 where
     pub fits : size_of shape * n ≤ length bs
     pub again : encoded_run shape (decoded_run shape n bs) ≡ take (size_of shape * n) bs
-    pub good : All (λ r. shape.good limits r ≡ true) (decoded_run shape n bs)
+    pub good : AllByRecursion (λ r. shape.good limits r ≡ true) (decoded_run shape n bs)
 
   -- a run has n records, each at its place
   pub length-decoded_run : (n : ℕ) (bs : List ℕ) → length (decoded_run shape n bs) ≡ n
@@ -106,7 +106,7 @@ module _ {R : Type 0} (shape : Shape R) (laws : ShapeLaws shape) where
   encoded_run_all [] = tt
   encoded_run_all (r ∷ rs) = All-append (λ b. b < 256) (encoded shape r) (encoded_run shape rs) (encoded_all r) (encoded_run_all rs)
 
-  pub run_decoded : (rs : List R) (rest : List ℕ) → All (λ r. Fits shape.widths (shape.fields r)) rs → decoded_run shape (length rs) (encoded_run shape rs ++ rest) ≡ rs
+  pub run_decoded : (rs : List R) (rest : List ℕ) → AllByRecursion (λ r. Fits shape.widths (shape.fields r)) rs → decoded_run shape (length rs) (encoded_run shape rs ++ rest) ≡ rs
   run_decoded [] rest f = refl
   run_decoded (r ∷ rs) rest f =
       let more : List ℕ = encoded_run shape rs ++ rest in
@@ -114,12 +114,12 @@ module _ {R : Type 0} (shape : Shape R) (laws : ShapeLaws shape) where
       ∙ ap₂ (λ q qs. q ∷ qs) (decoded-encoded r more f.0)
       (ap (decoded_run shape (length rs)) (drop_at (encoded shape r) more (size_of shape) (length-encoded r)) ∙ run_decoded rs rest f.1)
 
-  pub run_fits : (n : ℕ) (bs : List ℕ) → Bytes bs → All (λ r. Fits shape.widths (shape.fields r)) (decoded_run shape n bs)
+  pub run_fits : (n : ℕ) (bs : List ℕ) → Bytes bs → AllByRecursion (λ r. Fits shape.widths (shape.fields r)) (decoded_run shape n bs)
   run_fits zero bs all = tt
   run_fits (suc n) bs all = (decoded_fits bs all, run_fits n (drop (size_of shape) bs) (All-drop (λ b. b < 256) (size_of shape) bs all))
 
   -- where a run is due
-  pub run_written : (limits : Limits) (len : ℕ) (rs : List R) (rest : List ℕ) → All (λ r. Fits shape.widths (shape.fields r)) rs → All (λ r. shape.good limits r ≡ true) rs → due_run shape limits len (length rs) (encoded_run shape rs ++ rest) ≡ Ok tt
+  pub run_written : (limits : Limits) (len : ℕ) (rs : List R) (rest : List ℕ) → AllByRecursion (λ r. Fits shape.widths (shape.fields r)) rs → AllByRecursion (λ r. shape.good limits r ≡ true) rs → due_run shape limits len (length rs) (encoded_run shape rs ++ rest) ≡ Ok tt
   run_written limits len [] rest f g = refl
   run_written limits len (r ∷ rs) rest f g =
       let more : List ℕ = encoded_run shape rs ++ rest in

@@ -1,6 +1,6 @@
 -- Numbers in bytes, high byte first, and the fields of a record's body.
 use Rattle.std.specs.Prelude.{ℕ, zero, suc, ◌+◌, ◌*◌, ◌/◌, ◌%◌, ◌^◌, ◌<◌, List, [], ◌∷◌, ◌++◌, length, take, drop, slice_index}
-use Rattle.std.specs.List.{AllByRecursion as All}
+use Rattle.std.specs.List.{AllByRecursion}
 
 -- the number of w bytes at an offset
 abbrev pub number_at : ℕ → List ℕ → ℕ → ℕ
@@ -35,7 +35,7 @@ Fits (w ∷ ws) [] = ⊥
 Fits (w ∷ ws) (v ∷ vs) = (v < 256 ^ w) × Fits ws vs
 
 abbrev pub Bytes : List ℕ → Type 0
-Bytes bs = All (λ b. b < 256) bs
+Bytes bs = AllByRecursion (λ b. b < 256) bs
 
 -- the list with some of its bytes written over, from an offset on
 abbrev pub overlay : List ℕ → ℕ → List ℕ → List ℕ

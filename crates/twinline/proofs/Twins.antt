@@ -1,6 +1,6 @@
 -- The twin line's sections: where they are, and that they are in range.
 use Rattle.std.proofs.Common.{◌≡◌, ℕ, zero, suc, ◌+◌, ◌-◌, ◌*◌, ◌/◌, ◌<◌, ◌≤◌, ltb, map, length, Some, None, sym, ap, ◌∙◌, le-div_iff_mul-le, div-le_self, arith, lit<}
-use Rattle.std.specs.List.{range_with_len, AllByRecursion as All, slice_get}
+use Rattle.std.specs.List.{range_with_len, AllByRecursion, slice_get}
 use Rattle.std.proofs.lemmas.List.FromFn.{length-map-range_with_len, get_or-map-range_with_len}
 use Rattle.std.proofs.lemmas.Option.{slice_get-get_or, slice_get_past}
 use Rattle.std.proofs.lemmas.Bool.{cond_both}
@@ -20,7 +20,7 @@ module _ {X : Type 0} (f : ℕ → X) where
   pub nth_counting_past : (n i : ℕ) → n ≤ i → None ≡ slice_get (map f (range_with_len 0 n)) i
   nth_counting_past n i h = sym (slice_get_past (map f (range_with_len 0 n)) i (rw (length-map-range_with_len f 0 n) h))
 
-  pub all_counting : (P : X → Type 0) (a n : ℕ) → ((i : ℕ) → a ≤ i → i < a + n → P (f i)) → All P (map f (range_with_len a n))
+  pub all_counting : (P : X → Type 0) (a n : ℕ) → ((i : ℕ) → a ≤ i → i < a + n → P (f i)) → AllByRecursion P (map f (range_with_len a n))
   all_counting P a zero h = tt
   all_counting P a (suc n) h = (h a (omega arith) (omega arith), all_counting P (a + 1) n (λ i l m. h i (omega arith) (omega arith)))
 

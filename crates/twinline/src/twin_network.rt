@@ -4,7 +4,7 @@ ghost use Rattle.std.specs.List.{slice_get};
 ghost use Rattle.amounts.specs.Forms.{section_form};
 ghost use Rattle.networks.specs.declared.section.Section.{Section as Part};
 ghost use Rattle.networks.specs.Nets.{Roll, starts, starters};
-ghost use Rattle.twinline.specs.Twin.{line_of, line_drawn, twin_net, numbered as sectionBy, along as alongOf, section_count, end_of, open_section};
+ghost use Rattle.twinline.specs.Twin.{line_of, line_drawn, twin_net, numbered as section_by, along as along_of, section_count, end_of, open_section};
 ghost use Rattle.networks.specs.Ranges.{on_ok, between as inside};
 ghost use Rattle.twinline.specs.Drawn.{Drawn};
 ghost use Rattle.twinline.specs.Touching.{Only, Crossing, is_forward, or_none};
@@ -107,7 +107,7 @@ impl TwinLine {
 impl TwinLine {
     /// The section along a pipe to which a side comes at the station.
     fn along(&self, side: Side, station: usize) -> Option<usize>
-        ensures { Only (end_of (line_of self.now) side) station 0 (2 * alongOf (line_of self.now)) result }
+        ensures { Only (end_of (line_of self.now) side) station 0 (2 * along_of (line_of self.now)) result }
     {
         let count = self.count;
         match side {
@@ -146,7 +146,7 @@ impl TwinLine {
 
     /// The section across to which a side comes at the station.
     fn across(&self, side: Side, station: usize) -> Option<usize>
-        ensures { Only (end_of (line_of self.now) side) station (2 * alongOf (line_of self.now)) (section_count (line_of self.now)) result }
+        ensures { Only (end_of (line_of self.now) side) station (2 * along_of (line_of self.now)) (section_count (line_of self.now)) result }
     {
         if station < self.count {
             self.crossing(station, is_forward(side))
@@ -168,7 +168,7 @@ impl TwinLine {
     /// The numbered section: along the upper pipe, along the lower one, or across.
     fn numbered<C: Cost>(&self, number: usize) -> Section<C::Section>
         requires { number < section_count (line_of self.now) }
-        ensures { result ≡ sectionBy C.Cost.made (line_of self.now) number }
+        ensures { result ≡ section_by C.Cost.made (line_of self.now) number }
     {
         let count = self.count;
         let along = count - 1;

@@ -1,6 +1,6 @@
 //! The records of what is written.
 ghost use Rattle.std.specs.Prelude.{◌≡◌, ◌^◌, ◌<◌, map, length};
-ghost use Rattle.std.specs.List.{AllByRecursion as All};
+ghost use Rattle.std.specs.List.{AllByRecursion};
 ghost use Rattle.networks.specs.Nets.{InRange};
 ghost use Rattle.contents.specs.Content.{meant_of};
 ghost use Rattle.contents.specs.Encoding.{form_of, outcome_number, header_record, section_record, estimate_record, answer_record, step_record};
@@ -163,7 +163,7 @@ impl<'a, C: Cost> Rows for StepRows<'a, C> {
 
     ghost bodies = { λ s. map (step_record C.Cost) s.steps.now };
 
-    ghost ready = { λ s. All (λ step. step.section < 2 ^ 16) s.steps.now };
+    ghost ready = { λ s. AllByRecursion (λ step. step.section < 2 ^ 16) s.steps.now };
 
     fn body(&self, k: usize) -> Option<StepRecord> {
         if k < self.steps.len() {

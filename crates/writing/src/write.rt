@@ -5,7 +5,7 @@ ghost use Rattle.records.specs.Bytes.{overlay};
 ghost use Rattle.contents.specs.Again.{Back};
 ghost use Rattle.contents.specs.Content.{meant_of};
 ghost use Rattle.contents.specs.Encoding.{answer_encoded};
-ghost use Rattle.contents.specs.Writing.{placed, answer_size, RunFits, Short, content_by, write_fault, written_by, write_of};
+ghost use Rattle.contents.specs.Writing.{placed, answer_size, RunFits, Short, content_by, write_fault, write_of};
 
 use crate::bodies::{EstimateRows, SectionRows, StepRows, answer_body, header_body};
 use crate::holds::answer_fault;
@@ -83,7 +83,7 @@ fn put_page<C: Cost, N: Network<C>, E: Estimates<C>>(
     answer: &Option<Answer<'_, C::Label>>,
 ) -> usize
     requires { write_fault C.Cost (length page.old) (content_by (N.Network.meaning net.now) (E.Estimates.meaning estimates.now) answer.now) ≡ None }
-    ensures left { record { answer = Ok result; page = page.new } ≡ written_by C.Cost page.old (content_by (N.Network.meaning net.now) (E.Estimates.meaning estimates.now) answer.entry.now) None }
+    ensures left { record { answer = Ok result; page = page.new } ≡ write_of C.Cost page.old (content_by (N.Network.meaning net.now) (E.Estimates.meaning estimates.now) answer.now) }
     ensures back { Back C.Cost (content_by (N.Network.meaning net.now) (E.Estimates.meaning estimates.now) answer.now) (take result page.new) }
 {
     let count = estimates.count();

@@ -58,6 +58,6 @@ returns g c =
     (c.put.ensures ∙ ap (λ h. overlay page 0 (encoded header_shape h)) c.header_body.ensures) c.put_run.ensures c.put_run-2.ensures c.put_answer-end.ensures.page c.put-2.ensures
     (omega arith) (omega arith) (omega arith) (omega arith) in
     record {
-      left = write_left k page x (c.put_answer-end.result + 1) c.put-2.new.page size stands;
+      left = write_left k page x (c.put_answer-end.result + 1) c.put-2.new.page size stands counted room told.2;
       back = write_back k page x (c.put_answer-end.result + 1) c.put-2.new.page size stands laws valid;
     }
