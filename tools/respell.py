@@ -4,6 +4,7 @@
 Run it at the top of the repository, after the toolchain's port.py. It goes over crates/, README.md and docs/ by whole words; functions of src/, strings,
 inputs and outputs have none of these words.
 A dash stays in the name of a lemma on a function of a function, as `length-numbers`; a lemma with its function's name ends in `_lem`.
+The library's `AllByRecursion`, which the toolchain's script brings in as `All`, gets its own name.
 """
 
 import glob
@@ -360,6 +361,9 @@ written-reads written_reads
 zero-shown zero_shown
 """
 
+RENAMED = "AllByRecursion as All"
+ALL = re.compile(r"(?<![\w'\-])All(?![\w'\-])")
+
 
 def main():
     table = dict(line.split() for line in WORDS.strip().split("\n"))
@@ -373,6 +377,8 @@ def main():
         with open(path, encoding="utf-8") as file:
             text = file.read()
         turned = whole.sub(lambda m: table[m[0]], text)
+        if RENAMED in turned:
+            turned = ALL.sub("AllByRecursion", turned.replace(RENAMED, "AllByRecursion"))
         if turned != text:
             with open(path, "w", encoding="utf-8") as file:
                 file.write(turned)

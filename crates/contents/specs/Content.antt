@@ -92,10 +92,6 @@ module _ {C L S : Type 0} (c : cost.Ghosts C L S) where
       let a = decoded answer_shape rest in
       cond (has_answer rest) (Some (meant_by (net_of bs).sections a (decoded_run step_shape a.steps (step_bytes rest)))) None
 
-  -- what an answer's record tells at once
-  abbrev pub filed_from : AnswerRecord → Filed L
-  filed_from a = record { run = a.run; outcome = outcome_by a.outcome; cost = label_from a.moves a.samples; taken = a.taken; steps = a.steps }
-
   abbrev pub content_of : List ℕ → Content L S
   content_of bs = record { network = net_of bs; estimates = pairs_of bs; answer = answer_of bs }
 

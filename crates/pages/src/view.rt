@@ -17,7 +17,7 @@ pub struct PageView<'a, C: Cost> {
     ghost accepted: { is_ok (check_page header.kind bytes.now) ≡ true },
 }
 
-// A derive is refused at a struct with ghost fields.
+// A derive is refused at a generic struct with ghost fields.
 impl<C: Cost> Clone for PageView<'_, C> {
     ghost is_clone = { λ v w. w ≡ v };
 

@@ -87,7 +87,8 @@ fn put_page<C: Cost, N: Network<C>, E: Estimates<C>>(
     ensures back { Back C.Cost (content_by (N.Network.meaning net.now) (E.Estimates.meaning estimates.now) answer.now) (take result page.new) }
 {
     let count = estimates.count();
-    let stations = net.stations();
+    // Asked for what it promises: that the network is in range.
+    let _stations = net.stations();
     let pairs = 10 + 12 * net.sections();
     let after = pairs + 21 * count;
     put(page, 0, &header_body::<C, N>(net));
