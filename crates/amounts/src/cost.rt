@@ -6,14 +6,14 @@ ghost use Rattle.amounts.specs.declared.cost.SectionForm.{SectionForm};
 ghost use Rattle.amounts.specs.declared.cost.LabelForm.{LabelForm};
 
 /// A section's amount as it stands on a page.
-#[derive(Clone, Copy)]
+#[derive(Clone, Copy, Debug, Default, PartialEq, Eq)]
 pub struct SectionForm {
     pub moves: u16,
     pub samples: u32,
 }
 
 /// Any other amount as it stands on a page, its samples below 2^44.
-#[derive(Clone, Copy)]
+#[derive(Clone, Copy, Debug, Default, PartialEq, Eq)]
 pub struct LabelForm {
     pub moves: u32,
     pub samples: u64,
@@ -27,15 +27,18 @@ pub trait Cost {
     /// A section's amount.
     type Section: Copy;
 
+    /// Zero; a law below says that it is that of `ops`.
     const ZERO: Self::Label;
+
+    ghost ZERO: { Self.Label };
 
     /// The byte of this kind on a page.
     const KIND: u8;
 
+    ghost KIND: { ℕ };
+
     /// Zero, sum, difference, order and size, without limit.
     ghost ops: { Ops Self.Label };
-
-    ghost kind: { ℕ };
 
     /// A section's amount as a label, its form, and the amount that has a given form.
     ghost worth: { Self.Section → Self.Label };
@@ -48,13 +51,6 @@ pub trait Cost {
     ghost shown: { Self.Label → Option LabelForm };
 
     ghost told: { LabelForm → Option Self.Label };
-
-    /// Zero; a clause cannot cite the constant of a type parameter.
-    fn nought() -> Self::Label
-        ensures { result ≡ ops.zero };
-
-    fn kind_byte() -> u8
-        ensures { result ≡ kind };
 
     fn size(a: Self::Label) -> u64
         ensures { result ≡ ops.size a };
@@ -92,13 +88,14 @@ pub trait Cost {
         ensures { result ≡ told_section parts made form }
     {
         let section = Self::made(form);
-        let parts = Self::parts(section);
-        if parts.moves == form.moves && parts.samples == form.samples {
+        if Self::parts(section) == form {
             Some(section)
         } else {
             None
         }
     }
+
+    ghost zero: { ZERO ≡ ops.zero };
 
     ghost lawful: { Laws ops };
 
@@ -107,7 +104,7 @@ pub trait Cost {
     ghost labels: { LabelLaws ops shown told };
 
     /// Which forms there are, by the kind's byte.
-    ghost kinds: { KindLaws kind parts made told };
+    ghost kinds: { KindLaws KIND parts made told };
 
     ghost totals: { TotalsOnPage ops worth parts shown };
 }

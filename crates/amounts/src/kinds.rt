@@ -1,7 +1,7 @@
 //! The two kinds of cost: samples alone, and valve moves before samples.
 ghost use Rattle.std.specs.Prelude.{◌≡◌, pos, refl};
 ghost use Rattle.std.proofs.Math.IntN.{+ℤ_comm, +ℤ_assoc, +ℤ-neg_ℤ_cancel, -ℤ-+ℤ_cancel};
-ghost use Rattle.amounts.specs.Kinds.{samples, samples_parts, samples_made, samples_shown, samples_told, moves, moves_worth, moves_shown, moves_told};
+ghost use Rattle.amounts.specs.Kinds.{samples, samples_parts, samples_made, samples_shown, samples_told, moves, label, moves_worth, moves_shown, moves_told};
 ghost use Rattle.std.proofs.Common.{inl, inr, ⊎_elim, arith, rules};
 ghost use Rattle.std.proofs.lemmas.Int.{ints};
 ghost use Rattle.std.proofs.lemmas.Bool.{cases_Bool};
@@ -21,11 +21,13 @@ impl Cost for Samples {
 
     const ZERO: i64 = 0;
 
+    ghost ZERO = { pos 0 };
+
     const KIND: u8 = 1;
 
-    ghost ops = { samples };
+    ghost KIND = { 1 };
 
-    ghost kind = { 1 };
+    ghost ops = { samples };
 
     ghost worth = { pos };
 
@@ -36,6 +38,8 @@ impl Cost for Samples {
     ghost shown = { samples_shown };
 
     ghost told = { samples_told };
+
+    ghost zero = { refl };
 
     ghost lawful = { record {
       comm = +ℤ_comm;
@@ -61,14 +65,6 @@ impl Cost for Samples {
     ghost kinds = { Prim.search rules };
 
     ghost totals = { totals_samples };
-
-    fn nought() -> i64 {
-        Self::ZERO
-    }
-
-    fn kind_byte() -> u8 {
-        Self::KIND
-    }
 
     fn size(a: i64) -> u64 {
         a.unsigned_abs()
@@ -127,8 +123,8 @@ impl Cost for Samples {
 /// Kind 2: valve moves, and then samples.
 pub struct Moves;
 
-/// An amount in moves and samples, both signed.
-#[derive(Clone, Copy)]
+/// An amount in moves and samples, both signed, in the order of its fields: by moves, then by samples.
+#[derive(Clone, Copy, Debug, Default, PartialEq, Eq, PartialOrd, Ord)]
 pub struct MovesLabel {
     pub moves: i64,
     pub samples: i64,
@@ -144,11 +140,13 @@ impl Cost for Moves {
         samples: 0,
     };
 
+    ghost ZERO = { label (pos 0) (pos 0) };
+
     const KIND: u8 = 2;
 
-    ghost ops = { moves };
+    ghost KIND = { 2 };
 
-    ghost kind = { 2 };
+    ghost ops = { moves };
 
     ghost worth = { moves_worth };
 
@@ -159,6 +157,8 @@ impl Cost for Moves {
     ghost shown = { moves_shown };
 
     ghost told = { moves_told };
+
+    ghost zero = { refl };
 
     ghost lawful = { record {
       comm = λ a b. same (omega (arith, ints)) (omega (arith, ints));
@@ -185,20 +185,12 @@ impl Cost for Moves {
 
     ghost totals = { totals_moves };
 
-    fn nought() -> MovesLabel {
-        Self::ZERO
-    }
-
-    fn kind_byte() -> u8 {
-        Self::KIND
-    }
-
     fn size(a: MovesLabel) -> u64 {
         a.moves.unsigned_abs().max(a.samples.unsigned_abs())
     }
 
     fn at_most(a: MovesLabel, b: MovesLabel) -> bool {
-        a.moves < b.moves || a.moves == b.moves && a.samples <= b.samples
+        a <= b
     }
 
     fn sum(a: MovesLabel, b: MovesLabel) -> MovesLabel {
