@@ -88,11 +88,7 @@ pub trait Cost {
         ensures { result ≡ told_section parts made form }
     {
         let section = Self::made(form);
-        if Self::parts(section) == form {
-            Some(section)
-        } else {
-            None
-        }
+        (Self::parts(section) == form).then_some(section)
     }
 
     ghost zero: { ZERO ≡ ops.zero };

@@ -23,9 +23,10 @@ pub fn fit(a: u64, b: u64) -> bool
 pub fn in_field(a: i64, limit: u64) -> Option<u64>
     ensures { result ≡ field limit a }
 {
-    let n = u64::try_from(a).ok()?;
-    if n < limit { Some(n) } else { None }
+    u64::try_from(a).ok().filter(|n| *n < limit)
 }
+
+// Kept: these two, since the same operators written in place get no proof where a label has two parts.
 
 /// The sum of two numbers within the limit.
 pub(crate) fn exact_sum(a: i64, b: i64) -> i64
