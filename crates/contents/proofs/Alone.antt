@@ -7,7 +7,7 @@ use Rattle.contents.specs.Checks.{check_page}
 use Rattle.contents.specs.Encoding.{PageLaws, encode}
 use Rattle.contents.proofs.Returning.{read_again}
 
-pub again_of : {C L S : Type 0} (c : cost.Ghosts C L S) (laws : PageLaws c) (bs : List ℕ) → Bytes bs → check_page c.kind bs ≡ Ok tt → Again c bs
+pub again_of : {C L S : Type 0} (c : cost.Ghosts C L S) (laws : PageLaws c) (bs : List ℕ) → Bytes bs → check_page c.KIND bs ≡ Ok tt → Again c bs
 again_of c laws bs all e =
     let here = read_again c laws bs all e in
     record {

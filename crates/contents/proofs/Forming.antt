@@ -150,7 +150,7 @@ module _ {C L S : Type 0} (c : cost.Ghosts C L S) (laws : PageLaws c) where
   pub record LabelWritten (m s : ℕ) (a : L) : Type 0 where
     pub moves : m < 256 ^ 4
     pub samples : s < 256 ^ 6
-    pub good : label_fits c.kind m s ≡ true
+    pub good : label_fits c.KIND m s ≡ true
     pub read : label_from c m s ≡ a
 
   label_by : (a : L) (f : LabelForm) → c.shown a ≡ Some f → LabelWritten f.moves f.samples a
@@ -172,7 +172,7 @@ module _ {C L S : Type 0} (c : cost.Ghosts C L S) (laws : PageLaws c) where
     pub stands : OnPage c.shown (label_from c m s)
     pub form : form_of c (label_from c m s) ≡ label_form m s
 
-  pub label_read : (m s : ℕ) → m < 256 ^ 4 → label_fits c.kind m s ≡ true → LabelRead m s
+  pub label_read : (m s : ℕ) → m < 256 ^ 4 → label_fits c.KIND m s ≡ true → LabelRead m s
   label_read m s h g = go (c.told form) refl (laws.kinds.labels form ∙ g)
     where
       form : LabelForm
@@ -181,7 +181,7 @@ module _ {C L S : Type 0} (c : cost.Ghosts C L S) (laws : PageLaws c) where
       go : (o : Option L) → c.told form ≡ o → is_some o ≡ true → LabelRead m s
       go None e k = let z : ◌≡◌ {A = ℕ} 0 1 = cc in absurd (omega arith)
       go (Some a) e k =
-          let range : LabelRange form = record { moves = h; samples = ltb-true s (2 ^ 44) (and_parts (moves_fit c.kind m) (ltb s (2 ^ 44)) g).1 } in
+          let range : LabelRange form = record { moves = h; samples = ltb-true s (2 ^ 44) (and_parts (moves_fit c.KIND m) (ltb s (2 ^ 44)) g).1 } in
           let shown = laws.labels.back a form range e in
           let seen = ap (λ o. c.shown (or_else c.ops.zero o)) e ∙ shown in
           record { stands = (form, seen); form = ap (or_else (label_form 0 0)) seen }
@@ -189,26 +189,26 @@ module _ {C L S : Type 0} (c : cost.Ghosts C L S) (laws : PageLaws c) where
   -- Sections -----------------------------------------------------------------------------------
 
   -- the form of a section's amount
-  moves_fit_lem : (s : S) → moves_fit c.kind (c.parts s).moves ≡ true
+  moves_fit_lem : (s : S) → moves_fit c.KIND (c.parts s).moves ≡ true
   moves_fit_lem s =
       let f : SectionForm = c.parts s in
       sym (laws.kinds.sections f) ∙ ap (λ a. same_form (c.parts a) f) (laws.sections.whole s)
       ∙ ap₂ (λ x y. x && y) (eq-eqb f.moves f.moves refl) (eq-eqb f.samples f.samples refl)
 
-  form_made : (m s : ℕ) → moves_fit c.kind m ≡ true → c.parts (c.made (section_form m s)) ≡ section_form m s
+  form_made : (m s : ℕ) → moves_fit c.KIND m ≡ true → c.parts (c.made (section_form m s)) ≡ section_form m s
   form_made m s g =
       let f : SectionForm = c.parts (c.made (section_form m s)) in
       let p = and_parts (eqb f.moves m) (eqb f.samples s) (laws.kinds.sections (section_form m s) ∙ g) in
       ap₂ section_form (eqb-true f.moves m p.0) (eqb-true f.samples s p.1)
 
-  section_good : (h : HeaderRecord) (r : SectionRecord) → section_shape.good (limits_of c.kind h) r ≡ true → (r.state ≤ 1) × (r.from < h.stations) × (r.to < h.stations) × (moves_fit c.kind r.moves ≡ true)
+  section_good : (h : HeaderRecord) (r : SectionRecord) → section_shape.good (limits_of c.KIND h) r ≡ true → (r.state ≤ 1) × (r.from < h.stations) × (r.to < h.stations) × (moves_fit c.KIND r.moves ≡ true)
   section_good h r g =
       let p = and_parts (leb r.state 1) _ g in
       let q = and_parts (ltb r.from h.stations) _ p.1 in
       let t = and_parts (ltb r.to h.stations) _ q.1 in
       (leb-true _ _ p.0, ltb-true _ _ q.0, ltb-true _ _ t.0, t.1)
 
-  pub section_turns : (h : HeaderRecord) → h.stations ≤ 4096 → Turns section_shape (limits_of c.kind h) (section_record c) (section_from c) (SectionInRange c.parts h.stations)
+  pub section_turns : (h : HeaderRecord) → h.stations ≤ 4096 → Turns section_shape (limits_of c.KIND h) (section_record c) (section_from c) (SectionInRange c.parts h.stations)
   section_turns h few =
       record {
         fits = λ s v. (omega (arith, flag_small s.shut), (omega arith, (omega arith, (v.amount.moves, (v.amount.samples, tt)))));
@@ -224,7 +224,7 @@ module _ {C L S : Type 0} (c : cost.Ghosts C L S) (laws : PageLaws c) where
 
   -- Estimates ----------------------------------------------------------------------------------
 
-  pub estimate_turns : (h : HeaderRecord) → Turns estimate_shape (limits_of c.kind h) (estimate_record c) (pair_from c) (PairInRange c.shown)
+  pub estimate_turns : (h : HeaderRecord) → Turns estimate_shape (limits_of c.KIND h) (estimate_record c) (pair_from c) (PairInRange c.shown)
   estimate_turns h =
       record {
         fits = λ p v.
@@ -241,15 +241,15 @@ module _ {C L S : Type 0} (c : cost.Ghosts C L S) (laws : PageLaws c) where
             record { forward = p.0.stands; backward = p.1.stands };
       }
     where
-      estimate_read : (h : HeaderRecord) (r : EstimateRecord) → Fits estimate_shape.widths (estimate_shape.fields r) → estimate_shape.good (limits_of c.kind h) r ≡ true
+      estimate_read : (h : HeaderRecord) (r : EstimateRecord) → Fits estimate_shape.widths (estimate_shape.fields r) → estimate_shape.good (limits_of c.KIND h) r ≡ true
           → LabelRead r.forward_moves r.forward_samples × LabelRead r.backward_moves r.backward_samples
       estimate_read h r f g =
-          let p = and_parts (label_fits c.kind r.forward_moves r.forward_samples) _ g in
+          let p = and_parts (label_fits c.KIND r.forward_moves r.forward_samples) _ g in
           (label_read _ _ f.0 p.0, label_read _ _ f.1.1.0 p.1)
 
   -- Steps --------------------------------------------------------------------------------------
 
-  pub step_turns : (h : HeaderRecord) (sections : List (Section S)) → length sections ≡ h.sections → h.sections ≤ 16384 → Turns step_shape (limits_of c.kind h) (step_record c) (step_from c sections) (StepValid c sections)
+  pub step_turns : (h : HeaderRecord) (sections : List (Section S)) → length sections ≡ h.sections → h.sections ≤ 16384 → Turns step_shape (limits_of c.KIND h) (step_record c) (step_from c sections) (StepValid c sections)
   step_turns h sections e few =
       record {
         fits = λ s v.
@@ -270,7 +270,7 @@ module _ {C L S : Type 0} (c : cost.Ghosts C L S) (laws : PageLaws c) where
             record { section = s.0; there = s.1; from = ap from_of s.1; to = ap to_of s.1; cost = p.1.stands };
       }
     where
-      step_read : (r : StepRecord) → Fits step_shape.widths (step_shape.fields r) → step_shape.good (limits_of c.kind h) r ≡ true → (r.section < h.sections) × LabelRead r.moves r.samples
+      step_read : (r : StepRecord) → Fits step_shape.widths (step_shape.fields r) → step_shape.good (limits_of c.KIND h) r ≡ true → (r.section < h.sections) × LabelRead r.moves r.samples
       step_read r f g =
           let p = and_parts (ltb r.section h.sections) _ g in
           (ltb-true _ _ p.0, label_read _ _ f.1.0 p.1)
@@ -280,14 +280,14 @@ module _ {C L S : Type 0} (c : cost.Ghosts C L S) (laws : PageLaws c) where
   pub header_fits : (net : Net S) → InRange c.parts net → Fits header_shape.widths (header_shape.fields (header_record c net))
   header_fits net v = (laws.kinds.byte, (omega arith, (omega arith, (omega arith, (omega arith, tt)))))
 
-  pub header_good : (net : Net S) → InRange c.parts net → header_shape.good (limits_for c.kind) (header_record c net) ≡ true
+  pub header_good : (net : Net S) → InRange c.parts net → header_shape.good (limits_for c.KIND) (header_record c net) ≡ true
   header_good net v =
-      rw (eq-eqb c.kind c.kind refl, le-leb _ _ v.some, le-leb _ _ v.few, le-leb _ _ v.short, lt-ltb _ _ v.launcher, lt-ltb _ _ v.trap)
+      rw (eq-eqb c.KIND c.KIND refl, le-leb _ _ v.some, le-leb _ _ v.few, le-leb _ _ v.short, lt-ltb _ _ v.launcher, lt-ltb _ _ v.trap)
 
-  pub header_read : (h : HeaderRecord) → header_shape.good (limits_for c.kind) h ≡ true
-      → (h.kind ≡ c.kind) × (1 ≤ h.stations) × (h.stations ≤ 4096) × (h.sections ≤ 16384) × (h.launcher < h.stations) × (h.trap < h.stations)
+  pub header_read : (h : HeaderRecord) → header_shape.good (limits_for c.KIND) h ≡ true
+      → (h.kind ≡ c.KIND) × (1 ≤ h.stations) × (h.stations ≤ 4096) × (h.sections ≤ 16384) × (h.launcher < h.stations) × (h.trap < h.stations)
   header_read h g =
-      let p = and_parts (eqb h.kind c.kind) _ g in
+      let p = and_parts (eqb h.kind c.KIND) _ g in
       let q = and_parts (leb 1 h.stations) _ p.1 in
       let r = and_parts (leb h.stations 4096) _ q.1 in
       let s = and_parts (leb h.sections 16384) _ r.1 in
@@ -318,7 +318,7 @@ module _ {C L S : Type 0} (c : cost.Ghosts C L S) (laws : PageLaws c) where
       let a = label_written m.cost v.cost in
       (v.run, (omega (arith, outcome_small m.outcome), (a.moves, (a.samples, (omega arith, (omega arith, tt))))))
 
-  pub answer_good : (net : Net S) (m : Meant L) → MeantValid c net m → answer_shape.good (limits_of c.kind (header_record c net)) (answer_record c m) ≡ true
+  pub answer_good : (net : Net S) (m : Meant L) → MeantValid c net m → answer_shape.good (limits_of c.KIND (header_record c net)) (answer_record c m) ≡ true
   answer_good net m v =
       rw (le-leb _ _ (outcome_small m.outcome), (label_written m.cost v.cost).good, le-leb _ _ v.few, lt-ltb _ _ v.taken) (nothing_good m.outcome m.cost m.steps v.nothing)
 
@@ -328,14 +328,14 @@ module _ {C L S : Type 0} (c : cost.Ghosts C L S) (laws : PageLaws c) where
       ∙ ap (λ ss. record { run = m.run; outcome = m.outcome; cost = m.cost; taken = m.taken; steps = ss }) e
 
   -- an answer as it is read
-  module _ (h : HeaderRecord) (a : AnswerRecord) (fits : Fits answer_shape.widths (answer_shape.fields a)) (good : answer_shape.good (limits_of c.kind h) a ≡ true) where
+  module _ (h : HeaderRecord) (a : AnswerRecord) (fits : Fits answer_shape.widths (answer_shape.fields a)) (good : answer_shape.good (limits_of c.KIND h) a ≡ true) where
     abbrev Nothing : Bool
     Nothing = eqb a.outcome 0 || (eqb a.moves 0 && (eqb a.samples 0 && eqb a.steps 0))
 
     answer_read : (a.outcome ≤ 1) × LabelRead a.moves a.samples × (a.steps ≤ 4095) × (a.taken < h.stations) × (Nothing ≡ true)
     answer_read =
         let p = and_parts (leb a.outcome 1) _ good in
-        let q = and_parts (label_fits c.kind a.moves a.samples) _ p.1 in
+        let q = and_parts (label_fits c.KIND a.moves a.samples) _ p.1 in
         let s = and_parts (leb a.steps 4095) _ q.1 in
         let t = and_parts (ltb a.taken h.stations) _ s.1 in
         (leb-true _ _ p.0, label_read _ _ fits.1.1.0 q.0, leb-true _ _ s.0, ltb-true _ _ t.0, t.1)

@@ -109,7 +109,7 @@ module _ {C L S : Type 0} (c : cost.Ghosts C L S) (laws : PageLaws c) where
 
   module _ (net : Net S) (range : InRange c.parts net) where
     abbrev limits : Limits
-    limits = limits_of c.kind (header_record c net)
+    limits = limits_of c.KIND (header_record c net)
 
     -- an answer with its steps
     module _ (m : Meant L) (v : MeantValid c net m) where
@@ -148,16 +148,16 @@ module _ {C L S : Type 0} (c : cost.Ghosts C L S) (laws : PageLaws c) where
     abbrev page : List ℕ
     page = encode c x
 
-    abbrev sections_turn : Turns section_shape (limits_of c.kind head) (section_record c) (section_from c) (SectionInRange c.parts written.stations)
+    abbrev sections_turn : Turns section_shape (limits_of c.KIND head) (section_record c) (section_from c) (SectionInRange c.parts written.stations)
     sections_turn = section_turns c laws head v.network.few
 
-    abbrev estimates_turn : Turns estimate_shape (limits_of c.kind head) (estimate_record c) (pair_from c) (PairInRange c.shown)
+    abbrev estimates_turn : Turns estimate_shape (limits_of c.KIND head) (estimate_record c) (pair_from c) (PairInRange c.shown)
     estimates_turn = estimate_turns c laws head
 
-    page_passes : check_page c.kind page ≡ Ok tt
+    page_passes : check_page c.KIND page ≡ Ok tt
     page_passes =
-        let due = due_written header_shape header_laws (limits_for c.kind) (length page) head (sections_on c x) (header_fits c laws written v.network) (header_good c laws written v.network) in
-        sym (page_answer c.kind page head (sym due) (sections_on c x) (estimates_on c x) (ends c x.answer)
+        let due = due_written header_shape header_laws (limits_for c.KIND) (length page) head (sections_on c x) (header_fits c laws written v.network) (header_good c laws written v.network) in
+        sym (page_answer c.KIND page head (sym due) (sections_on c x) (estimates_on c x) (ends c x.answer)
         refl
         (sym (run_passes section_laws sections_turn (length page) head.sections written.sections (estimates_on c x) refl v.network.each))
         (sym (run_after section_laws sections_turn head.sections written.sections (estimates_on c x) refl))
@@ -187,7 +187,7 @@ module _ {C L S : Type 0} (c : cost.Ghosts C L S) (laws : PageLaws c) where
         content_by : HeaderRecord → List ℕ → Content L S
         content_by k rest = after_sections k (map (section_from c) (decoded_run section_shape k.sections rest)) (drop (12 * k.sections) rest)
 
-  pub written_reads : (x : Content L S) → Valid c x → (check_page c.kind (encode c x) ≡ Ok tt) × (content_of c (encode c x) ≡ x)
+  pub written_reads : (x : Content L S) → Valid c x → (check_page c.KIND (encode c x) ≡ Ok tt) × (content_of c (encode c x) ≡ x)
   written_reads x v = (page_passes x v, page_reads x v)
 
   -- What passes is written again -----------------------------------------------------------------
@@ -195,7 +195,7 @@ module _ {C L S : Type 0} (c : cost.Ghosts C L S) (laws : PageLaws c) where
   -- of the answer or the end, with the network that was read before
   module _ (h : HeaderRecord) (net : Net S) (stations : net.stations ≡ h.stations) (count : length net.sections ≡ h.sections) (few : h.sections ≤ 16384) (len : ℕ) (rest : List ℕ) (all : Bytes rest) where
     abbrev left : Limits
-    left = limits_of c.kind h
+    left = limits_of c.KIND h
 
     abbrev steps_at : List ℕ
     steps_at = step_bytes rest
@@ -232,16 +232,16 @@ module _ {C L S : Type 0} (c : cost.Ghosts C L S) (laws : PageLaws c) where
         go false e = (end_back left len rest e, tt)
 
   -- the whole page
-  pub read_again : (bs : List ℕ) → Bytes bs → check_page c.kind bs ≡ Ok tt → (encode c (content_of c bs) ≡ bs) × Valid c (content_of c bs)
+  pub read_again : (bs : List ℕ) → Bytes bs → check_page c.KIND bs ≡ Ok tt → (encode c (content_of c bs) ≡ bs) × Valid c (content_of c bs)
   read_again bs all e =
       let h = header_of bs in
       let len = length bs in
-      let limits = limits_of c.kind h in
+      let limits = limits_of c.KIND h in
       let net = net_of c bs in
-      let p = both (due_record header_shape (limits_for c.kind) len bs) _ tt e in
+      let p = both (due_record header_shape (limits_for c.KIND) len bs) _ tt e in
       let q = both (due_run section_shape limits len h.sections (section_bytes bs)) _ tt p.2 in
       let t = both (due_run estimate_shape limits len h.stations (estimate_bytes bs)) _ tt q.2 in
-      let here = due_stands header_shape (limits_for c.kind) len bs p.0 p.1 in
+      let here = due_stands header_shape (limits_for c.KIND) len bs p.0 p.1 in
       let r = header_read c laws h here.good in
       let all₁ = bytes_drop 10 bs all in
       let all₂ = bytes_drop (12 * h.sections) (section_bytes bs) all₁ in

@@ -12,9 +12,9 @@ pub record Again {C L S : Type 0} (c : cost.Ghosts C L S) (bs : List ℕ) : Type
   -- what it means is in range throughout
   pub valid : Valid c (content_of c bs)
   -- and no other accepted page means the same
-  pub alone : (other : List ℕ) → Bytes other → check_page c.kind other ≡ Ok tt → content_of c other ≡ content_of c bs → other ≡ bs
+  pub alone : (other : List ℕ) → Bytes other → check_page c.KIND other ≡ Ok tt → content_of c other ≡ content_of c bs → other ≡ bs
 
 -- What is written is accepted, and means just what was put in.
 pub record Back {C L S : Type 0} (c : cost.Ghosts C L S) (x : Content L S) (bs : List ℕ) : Type 0 where
-  pub accepted : check_page c.kind bs ≡ Ok tt
+  pub accepted : check_page c.KIND bs ≡ Ok tt
   pub same : content_of c bs ≡ x

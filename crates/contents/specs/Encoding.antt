@@ -48,7 +48,7 @@ module _ {C L S : Type 0} (c : cost.Ghosts C L S) where
       record { run = m.run; outcome = outcome_number m.outcome; moves = (form_of m.cost).moves; samples = (form_of m.cost).samples; steps = length m.steps; taken = m.taken }
 
   abbrev pub header_record : Net S → HeaderRecord
-  header_record net = record { kind = c.kind; stations = net.stations; sections = length net.sections; launcher = net.launcher; trap = net.trap }
+  header_record net = record { kind = c.KIND; stations = net.stations; sections = length net.sections; launcher = net.launcher; trap = net.trap }
 
   abbrev pub answer_encoded : Option (Meant L) → List ℕ
   answer_encoded None = []
@@ -100,4 +100,4 @@ module _ {C L S : Type 0} (c : cost.Ghosts C L S) where
   pub record PageLaws : Type 0 where
     pub sections : SectionLaws c.ops c.worth c.parts c.made
     pub labels : LabelLaws c.ops c.shown c.told
-    pub kinds : KindLaws c.kind c.parts c.made c.told
+    pub kinds : KindLaws c.KIND c.parts c.made c.told

@@ -39,8 +39,8 @@ impl<C: Cost> Estimates<C> for Blank {
     fn pair(&self, station: usize) -> Option<Pair<C::Label>> {
         if self.covers(station) {
             Some(Pair {
-                forward: C::nought(),
-                backward: C::nought(),
+                forward: C::ZERO,
+                backward: C::ZERO,
             })
         } else {
             None

@@ -49,7 +49,7 @@ pub(crate) fn label_from<C: Cost>(moves: u32, samples: u64) -> C::Label
 {
     match C::told(LabelForm { moves, samples }) {
         Some(label) => label,
-        None => C::nought(),
+        None => C::ZERO,
     }
 }
 

@@ -36,11 +36,11 @@ pub fn blank<'a, C: Cost>() -> PageView<'a, C>
 /// Fills a view that the caller holds; refused, the view stands as it was.
 /// An accepted page is the bytes of what its view means, so no two accepted pages mean the same.
 pub fn read<'a, C: Cost>(page: &'a [u8], view: &mut PageView<'a, C>) -> Result<(), Fault>
-    ensures answer { result ≡ check_page C.Cost.kind page.now }
+    ensures answer { result ≡ check_page C.Cost.KIND page.now }
     ensures filled { elim result [ Ok _ ↦ view.new.bytes.now ≡ page.now | Err _ ↦ view.new ≡ view.old ] }
     ensures again { elim result [ Ok _ ↦ Again C.Cost page.now | Err _ ↦ Unit {0} ] }
 {
-    let header = check_page(page, C::kind_byte())?;
+    let header = check_page(page, C::KIND)?;
     *view = PageView {
         bytes: page,
         header,

@@ -35,7 +35,7 @@ impl<C: Cost> PageView<'_, C> {
         ensures { result ≡ walks C.Cost (net_of C.Cost self.now.bytes.now) (net_of C.Cost self.now.bytes.now).launcher C.Cost.ops.zero total (steps_in (answer_of C.Cost self.now.bytes.now)) }
     {
         let mut station = self.launcher();
-        let mut cost = C::nought();
+        let mut cost = C::ZERO;
         for k in 0..steps {
             let Some(step) = self.step(k) else {
                 return false;

@@ -32,7 +32,7 @@ pub(crate) fn header_body<C: Cost, N: Network<C>>(net: &N) -> HeaderRecord
     ensures { result ≡ header_record C.Cost (N.Network.meaning net.now) }
 {
     HeaderRecord {
-        kind: C::kind_byte(),
+        kind: C::KIND,
         stations: net.stations() as u16,
         sections: net.sections() as u16,
         launcher: net.launcher() as u16,
