@@ -1,19 +1,16 @@
 //! The records of what is written.
 ghost use Rattle.std.specs.Prelude.{◌≡◌, ◌^◌, ◌<◌, map, length};
-ghost use Rattle.std.specs.List.{AllByRecursion};
+ghost use Rattle.std.specs.List.{AllByRecursion, slice_get};
 ghost use Rattle.networks.specs.Nets.{InRange};
 ghost use Rattle.contents.specs.Content.{meant_of};
 ghost use Rattle.contents.specs.Encoding.{form_of, outcome_number, header_record, section_record, estimate_record, answer_record, step_record};
 
-use crate::rows::Rows;
 use amounts::cost::{Cost, LabelForm};
 use contents::answer::{Answer, Outcome, Step};
 use networks::estimates::{Estimates, Pair};
 use networks::network::Network;
 use networks::section::Section;
 use records::kinds::{AnswerRecord, EstimateRecord, HeaderRecord, SectionRecord, StepRecord};
-use records::record::Record;
-use std::marker::PhantomData;
 
 /// An amount's form; zeros where it has none.
 pub(crate) fn form_of<C: Cost>(amount: C::Label) -> LabelForm
@@ -114,62 +111,28 @@ fn step_body<C: Cost>(step: Step<C::Label>) -> StepRecord
     }
 }
 
-/// The records of a network's sections.
-#[derive(Drop)]
-pub(crate) struct SectionRows<'a, C: Cost, N: Network<C>> {
-    pub(crate) net: &'a N,
-    pub(crate) tag: PhantomData<C>,
+/// The record of the numbered section; absent past the last.
+pub(crate) fn section_row<C: Cost, N: Network<C>>(net: &N, number: usize) -> Option<SectionRecord>
+    requires { InRange C.Cost.parts (N.Network.meaning net.now) }
+    ensures { result ≡ slice_get (map (section_record C.Cost) (N.Network.meaning net.now).sections) number }
+{
+    Some(section_body::<C>(net.section(number)?))
 }
 
-impl<'a, C: Cost, N: Network<C>> Rows for SectionRows<'a, C, N> {
-    type Body = SectionRecord;
-
-    ghost bodies = { λ s. map (section_record C.Cost) (N.Network.meaning s.net.now).sections };
-
-    ghost ready = { λ s. InRange C.Cost.parts (N.Network.meaning s.net.now) };
-
-    fn body(&self, k: usize) -> Option<SectionRecord> {
-        Some(section_body::<C>(self.net.section(k)?))
-    }
+/// The record of a station's estimates; absent past the last.
+pub(crate) fn estimate_row<C: Cost, E: Estimates<C>>(
+    estimates: &E,
+    station: usize,
+) -> Option<EstimateRecord>
+    ensures { result ≡ slice_get (map (estimate_record C.Cost) (E.Estimates.meaning estimates.now)) station }
+{
+    Some(estimate_body::<C>(estimates.pair(station)?))
 }
 
-/// The records of estimates.
-#[derive(Drop)]
-pub(crate) struct EstimateRows<'a, C: Cost, E: Estimates<C>> {
-    pub(crate) estimates: &'a E,
-    pub(crate) tag: PhantomData<C>,
-}
-
-impl<'a, C: Cost, E: Estimates<C>> Rows for EstimateRows<'a, C, E> {
-    type Body = EstimateRecord;
-
-    ghost bodies = { λ s. map (estimate_record C.Cost) (E.Estimates.meaning s.estimates.now) };
-
-    ghost ready = { λ _. Unit {0} };
-
-    fn body(&self, k: usize) -> Option<EstimateRecord> {
-        Some(estimate_body::<C>(self.estimates.pair(k)?))
-    }
-}
-
-/// The records of an answer's steps.
-#[derive(Drop)]
-pub(crate) struct StepRows<'a, C: Cost> {
-    pub(crate) steps: &'a [Step<C::Label>],
-}
-
-impl<'a, C: Cost> Rows for StepRows<'a, C> {
-    type Body = StepRecord;
-
-    ghost bodies = { λ s. map (step_record C.Cost) s.steps.now };
-
-    ghost ready = { λ s. AllByRecursion (λ step. step.section < 2 ^ 16) s.steps.now };
-
-    fn body(&self, k: usize) -> Option<StepRecord> {
-        if k < self.steps.len() {
-            Some(step_body::<C>(self.steps[k]))
-        } else {
-            None
-        }
-    }
+/// The record of a step, counted from 0; absent past the last.
+pub(crate) fn step_row<C: Cost>(steps: &[Step<C::Label>], k: usize) -> Option<StepRecord>
+    requires { AllByRecursion (λ step. step.section < 2 ^ 16) steps.now }
+    ensures { result ≡ slice_get (map (step_record C.Cost) steps.now) k }
+{
+    Some(step_body::<C>(*steps.get(k)?))
 }

@@ -1,25 +1,10 @@
 //! Putting records on a page, one or a run of them.
-ghost use Rattle.std.specs.Prelude.{◌≡◌, ◌+◌, ◌*◌, ◌≤◌, List, length};
-ghost use Rattle.std.specs.List.{slice_get};
+ghost use Rattle.std.specs.Prelude.{◌≡◌, ℕ, ◌+◌, ◌*◌, ◌<◌, ◌≤◌, List, length};
 ghost use Rattle.records.specs.Bytes.{overlay};
 ghost use Rattle.records.specs.Shapes.{size_of, encoded, encoded_run};
+ghost use Rattle.writing.specs.Rows.{MadeOneByOne};
 
 use records::record::Record;
-
-/// Records in a row, which are made one at a time.
-pub(crate) trait Rows {
-    type Body: Record + Drop;
-
-    ghost bodies: { Self → List Self.Body };
-
-    /// What must hold for a record to be made.
-    ghost ready: { Self → Type 0 };
-
-    /// The k-th record, from 0; absent past the last.
-    fn body(&self, k: usize) -> Option<Self::Body>
-        requires { ready self.now }
-        ensures { result ≡ slice_get (bodies self.now) k };
-}
 
 /// Puts a record's bytes over those of the page from an offset on.
 pub(crate) fn put<R: Record>(page: &mut [u8], at: usize, body: &R)
@@ -31,16 +16,21 @@ pub(crate) fn put<R: Record>(page: &mut [u8], at: usize, body: &R)
     page[at..at + size].copy_from_slice(&bytes[0..size]);
 }
 
-/// Puts records over the bytes of the page, one after another from an offset on.
-pub(crate) fn put_run<T: Rows>(page: &mut [u8], at: usize, rows: &T)
-    requires room { at + size_of T.Body.Record.shape * length (T.Rows.bodies rows.now) ≤ length page.old }
-    requires ready { T.Rows.ready rows.now }
-    ensures { page.new ≡ overlay page.old at (encoded_run T.Body.Record.shape (T.Rows.bodies rows.now)) }
+/// Puts so many records over the bytes of the page, one after another from an offset on.
+pub(crate) fn put_run<R: Record + Drop, F: Fn(usize) -> Option<R>>(
+    page: &mut [u8],
+    at: usize,
+    count: usize,
+    make: F,
+)
+    requires room { at + size_of R.Record.shape * count ≤ length page.old }
+    requires each { (k : ℕ) → k < count → F.pre make k }
+    ensures { (rs : List R) → MadeOneByOne (F.post make) count rs → page.new ≡ overlay page.old at (encoded_run R.Record.shape rs) }
 {
-    let size = T::Body::size();
-    let mut k = 0;
-    while let Some(body) = rows.body(k) {
-        put(page, at + size * k, &body);
-        k += 1;
+    for k in 0..count {
+        let Some(body) = make(k) else {
+            return;
+        };
+        put(page, at + R::size() * k, &body);
     }
 }

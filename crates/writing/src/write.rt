@@ -7,7 +7,7 @@ ghost use Rattle.contents.specs.Content.{meant_of};
 ghost use Rattle.contents.specs.Encoding.{answer_encoded};
 ghost use Rattle.contents.specs.Writing.{placed, answer_size, RunFits, Short, content_by, write_fault, write_of};
 
-use crate::bodies::{EstimateRows, SectionRows, StepRows, answer_body, header_body};
+use crate::bodies::{answer_body, estimate_row, header_body, section_row, step_row};
 use crate::holds::answer_fault;
 use crate::rows::{put, put_run};
 use amounts::cost::Cost;
@@ -17,7 +17,6 @@ use networks::estimates::Estimates;
 use networks::network::Network;
 use records::due::page_fault;
 use records::kinds::EndRecord;
-use std::marker::PhantomData;
 
 /// Where an answer at an offset ends with its steps, as far as a machine number goes.
 fn answer_end<L>(at: usize, answer: &Option<Answer<'_, L>>) -> usize
@@ -43,13 +42,8 @@ fn put_answer<C: Cost>(page: &mut [u8], at: usize, answer: &Option<Answer<'_, C:
         return at;
     };
     put(page, at, &answer_body::<C>(answer));
-    put_run(
-        page,
-        at + 20,
-        &StepRows::<C> {
-            steps: answer.steps,
-        },
-    );
+    let steps = answer.steps;
+    put_run(page, at + 20, steps.len(), |k| step_row::<C>(steps, k));
     at + 20 + 13 * answer.steps.len()
 }
 
@@ -92,22 +86,12 @@ fn put_page<C: Cost, N: Network<C>, E: Estimates<C>>(
     let pairs = 10 + 12 * net.sections();
     let after = pairs + 21 * count;
     put(page, 0, &header_body::<C, N>(net));
-    put_run(
-        page,
-        10,
-        &SectionRows::<C, N> {
-            net,
-            tag: PhantomData,
-        },
-    );
-    put_run(
-        page,
-        pairs,
-        &EstimateRows::<C, E> {
-            estimates,
-            tag: PhantomData,
-        },
-    );
+    put_run(page, 10, net.sections(), |number| {
+        section_row::<C, N>(net, number)
+    });
+    put_run(page, pairs, count, |station| {
+        estimate_row::<C, E>(estimates, station)
+    });
     let end = put_answer::<C>(page, after, answer);
     put(page, end, &EndRecord);
     end + 1

@@ -1,4 +1,4 @@
-use Rattle.std.proofs.Common.{◌≡◌, Some, None, sym, ap, ◌∙◌, subst, arith}
+use Rattle.std.proofs.Common.{rules, ◌≡◌, map, Some, None, sym, ap, ◌∙◌, subst, arith}
 use Rattle.std.proofs.lemmas.List.{length-map}
 use Rattle.networks.specs.Ranges.{on_some}
 use Rattle.records.specs.Bytes.{overlay}
@@ -27,7 +27,7 @@ put_run-requires g c =
     let steps = c.in-Some.answer.steps.now in
     record {
       room = omega (arith, ap answer_size some, length-map steps (step_record g.C.Cost));
-      ready = (subst Short some c.requires.short).2;
+      each = λ k h. search rules;
     }
 
 pub returns : goal.returns
@@ -36,9 +36,10 @@ returns g c =
     let m = meant_of c.in-Some.answer in
     let some : o ≡ Some m = ap (on_some meant_of) c.in-Some.is in
     let size = ap answer_size some in
+    let steps = c.in-Some.answer.steps.now in
     record {
       end = omega arith;
       run = subst RunFits (sym some) c.answer_body.ensures.run;
       page = some_put g.C.Cost c.args.page.now c.args.at o m some
-          (c.put.ensures ∙ ap (λ a. overlay c.args.page.now c.args.at (encoded answer_shape a)) c.answer_body.ensures.body) c.put_run.ensures (omega arith);
+          (c.put.ensures ∙ ap (λ a. overlay c.args.page.now c.args.at (encoded answer_shape a)) c.answer_body.ensures.body) (c.put_run.ensures (map (step_record g.C.Cost) steps) (record { many = length-map steps (step_record g.C.Cost); each = λ k o h made. search rules })) (omega arith);
     }

@@ -1,4 +1,4 @@
-use Rattle.std.proofs.Common.{◌≡◌, ◌+◌, ◌*◌, ◌≤◌, length, ap, ◌∙◌, arith}
+use Rattle.std.proofs.Common.{rules, ◌≡◌, map, ◌+◌, ◌*◌, ◌≤◌, length, ap, ◌∙◌, arith}
 use Rattle.std.proofs.lemmas.List.{length-map}
 use Rattle.networks.specs.Ranges.{on_some}
 use Rattle.records.specs.Bytes.{overlay}
@@ -18,7 +18,7 @@ put_run-requires g c =
     let room : needed x ≤ length c.args.page.now = (nothing_refused g.C.Cost c.args.page.now x _ c.requires).1 in
     let n = length-map net.sections (section_record g.C.Cost) in
     let few = c.stations-stations.ensures.range.short in
-    record { room = omega arith; ready = c.stations-stations.ensures.range }
+    record { room = omega arith; each = λ k h. search rules }
 
 pub put_run-requires-2 : goal.put_run-requires-2
 put_run-requires-2 g c =
@@ -26,7 +26,7 @@ put_run-requires-2 g c =
     let x = content_by (g.N.Network.meaning c.args.net.now) pairs c.args.answer.now in
     let room : needed x ≤ length c.args.page.now = (nothing_refused g.C.Cost c.args.page.now x _ c.requires).1 in
     let n = length-map pairs (estimate_record g.C.Cost) in
-    record { room = omega arith; ready = tt }
+    record { room = omega arith; each = λ k h. search rules }
 
 pub put_answer-end-requires : goal.put_answer-end-requires
 put_answer-end-requires g c =
@@ -55,7 +55,7 @@ returns g c =
     let size : c.put_answer-end.result + 1 ≡ 10 + 12 * length net.sections + 21 * length pairs + answer_size o + 1 = omega arith in
     let stands =
     page_put k page x (10 + 12 * c.sections.result) (10 + 12 * c.sections.result + 21 * c.count-count.result) c.put_answer-end.result
-    (c.put.ensures ∙ ap (λ h. overlay page 0 (encoded header_shape h)) c.header_body.ensures) c.put_run.ensures c.put_run-2.ensures c.put_answer-end.ensures.page c.put-2.ensures
+    (c.put.ensures ∙ ap (λ h. overlay page 0 (encoded header_shape h)) c.header_body.ensures) (c.put_run.ensures (map (section_record k) net.sections) (record { many = omega (arith, length-map net.sections (section_record k)); each = λ i o h made. search rules })) (c.put_run-2.ensures (map (estimate_record k) pairs) (record { many = omega (arith, length-map pairs (estimate_record k)); each = λ i o h made. search rules })) c.put_answer-end.ensures.page c.put-2.ensures
     (omega arith) (omega arith) (omega arith) (omega arith) in
     record {
       left = write_left k page x (c.put_answer-end.result + 1) c.put-2.new.page size stands counted room told.2;
