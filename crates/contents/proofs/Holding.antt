@@ -1,8 +1,10 @@
 -- An answer without a fault is one that a page can hold.
-use Rattle.std.proofs.Common.{◌≡◌, ℕ, ◌+◌, ◌*◌, ◌^◌, ◌<◌, ◌≤◌, Bool, true, false, cond, ◌&&◌, eqb, ltb, leb, List, [], ◌∷◌, length, get_or, drop, is_some, Some, None, Option, sym, refl, ap, ◌∙◌, ap₂, arith}
-use Rattle.std.specs.List.{AllByRecursion, slice_get}
+use Rattle.std.proofs.Common.{◌≡◌, ℕ, ◌+◌, ◌*◌, ◌^◌, ◌<◌, ◌≤◌, Bool, true, false, cond, not, ◌&&◌, eqb, ltb, leb, List, [], ◌∷◌, length, is_some, Some, None, Option, sym, refl, ap, ◌∙◌, ap₂, arith}
+use Rattle.std.specs.List.{AllByRecursion, slice_get, position, position_from}
+use Rattle.std.specs.Option.{option_map}
+use Rattle.std.proofs.lemmas.Iterator.Adapters.{position_from-zero}
 use Rattle.std.proofs.ByRecursion.{All-weaker}
-use Rattle.std.proofs.lemmas.List.{drop_more, drop_all, nil_from_length}
+use Rattle.std.proofs.lemmas.List.{nil_from_length}
 use Rattle.std.proofs.lemmas.Bool.{false≢true, and_parts, eqb-true, ltb-true, leb-true}
 use Rattle.faults.specs.declared.Fault.{Fault}
 use Rattle.faults.specs.declared.Refusal.TheVariants.{FieldOutOfRange}
@@ -25,26 +27,29 @@ none_left true o a e = (refl, e)
 none_left false o a e = let z : ◌≡◌ {A = ℕ} 0 1 = cc in absurd (omega arith)
 
 module _ {C L S : Type 0} (c : cost.Ghosts C L S) (net : Net S) where
-  -- One step after another -----------------------------------------------------------------------
+  -- The first step that a page cannot hold ----------------------------------------------------
 
-  module _ (at : ℕ) (steps : List (Step L)) where
-    -- what is still to come after i steps
-    abbrev pub left : ℕ → Option Fault
-    left i = steps_fault c net (at + 13 * i) (drop i steps)
+  module _ (at : ℕ) where
+    field : ℕ → Fault
+    field k = page_fault (FieldOutOfRange (at + 13 * k))
 
-    fault_at : (i : ℕ) (s : Step L) → i < length steps → s ≡ get_or steps i s → left i ≡ cond (step_good c net s) (left (i + 1)) (Some (page_fault (FieldOutOfRange (at + 13 * i))))
-    fault_at i s h e =
-        ap (steps_fault c net (at + 13 * i)) (drop_more steps i s h)
-        ∙ ap₂ (λ t n. cond (step_good c net t) (steps_fault c net n (drop (i + 1) steps)) (Some (page_fault (FieldOutOfRange (at + 13 * i))))) (sym e) (omega arith)
+    pick : (i : ℕ) (good : Bool) (x : Option Fault) (y : Option ℕ) → x ≡ option_map field y → cond good x (Some (field i)) ≡ option_map field (cond (not good) (Some i) y)
+    pick i true x y e = e
+    pick i false x y e = refl
 
-    pub fault_more : (i : ℕ) (s : Step L) → i < length steps → s ≡ get_or steps i s → step_good c net s ≡ true → left (i + 1) ≡ left i
-    fault_more i s h e good = sym (fault_at i s h e ∙ ap (λ b. cond b (left (i + 1)) (Some (page_fault (FieldOutOfRange (at + 13 * i))))) good)
+    steps_fault_from : (i : ℕ) (ss : List (Step L)) → steps_fault c net (at + 13 * i) ss ≡ option_map field (position_from (λ s. not (step_good c net s)) i ss)
+    unfolding field
+    steps_fault_from i [] = refl
+    steps_fault_from i (s ∷ ss) =
+        pick i (step_good c net s) (steps_fault c net (at + 13 * i + 13) ss) (position_from (λ t. not (step_good c net t)) (i + 1) ss)
+        (ap (λ n. steps_fault c net n ss) (omega arith) ∙ steps_fault_from (i + 1) ss)
 
-    pub fault_here : (i : ℕ) (s : Step L) → i < length steps → s ≡ get_or steps i s → step_good c net s ≡ false → Some (page_fault (FieldOutOfRange (at + 13 * i))) ≡ left i
-    fault_here i s h e bad = sym (fault_at i s h e ∙ ap (λ b. cond b (left (i + 1)) (Some (page_fault (FieldOutOfRange (at + 13 * i))))) bad)
-
-    pub fault_none : (i : ℕ) → length steps ≤ i → None ≡ left i
-    fault_none i h = sym (ap (steps_fault c net (at + 13 * i)) (drop_all i steps h))
+    pub steps_fault_position : (ss : List (Step L)) (first : Option ℕ) → first ≡ position (λ s. not (step_good c net s)) ss
+        → steps_fault c net at ss ≡ option_map (λ k. page_fault (FieldOutOfRange (at + 13 * k))) first
+    unfolding field
+    steps_fault_position ss first e =
+        ap (λ n. steps_fault c net n ss) (omega arith) ∙ steps_fault_from 0 ss
+        ∙ ap (option_map field) (sym (e ∙ position_from-zero (λ s. not (step_good c net s)) ss))
 
   -- What has no fault is valid -------------------------------------------------------------------
 

@@ -16,13 +16,7 @@ use records::kinds::{AnswerRecord, EstimateRecord, HeaderRecord, SectionRecord, 
 pub(crate) fn form_of<C: Cost>(amount: C::Label) -> LabelForm
     ensures { result ≡ form_of C.Cost amount }
 {
-    match C::shown(amount) {
-        Some(form) => form,
-        None => LabelForm {
-            moves: 0,
-            samples: 0,
-        },
-    }
+    C::shown(amount).unwrap_or_default()
 }
 
 pub(crate) fn header_body<C: Cost, N: Network<C>>(net: &N) -> HeaderRecord
@@ -75,6 +69,7 @@ fn outcome_number(outcome: Outcome) -> u8
 }
 
 /// A run by value, so that it is known to fit.
+// Kept: a number in a struct behind a reference has no range to a proof, read in place or by a pattern.
 fn run_number(run: u32) -> u32
     ensures same { result ≡ run }
     ensures fits { run < 2 ^ 32 }

@@ -1,5 +1,7 @@
 //! Whether a page can hold an answer.
-ghost use Rattle.std.specs.Prelude.{◌≡◌, ◌+◌, ◌*◌, ◌^◌, ◌<◌, length};
+ghost use Rattle.std.specs.Prelude.{◌≡◌, not, ◌+◌, ◌*◌, ◌^◌, ◌<◌, length};
+ghost use Rattle.std.specs.List.{position};
+ghost use Rattle.std.specs.Result.{result_err};
 ghost use Rattle.networks.specs.Ranges.{on_some};
 ghost use Rattle.contents.specs.Content.{meant_of};
 ghost use Rattle.contents.specs.Writing.{step_good, nothing_at, meant_good, steps_fault, answer_fault};
@@ -7,9 +9,8 @@ ghost use Rattle.contents.specs.Writing.{step_good, nothing_at, meant_good, step
 use crate::bodies::form_of;
 use amounts::cost::Cost;
 use contents::answer::{Answer, Outcome, Step};
-use faults::{Fault, Refusal};
+use faults::{Fault, Layer, Refusal};
 use networks::network::Network;
-use records::due::page_fault;
 
 /// The most steps of an answer.
 const MOST_STEPS: usize = 4095;
@@ -18,12 +19,10 @@ const MOST_STEPS: usize = 4095;
 fn step_good<C: Cost, N: Network<C>>(net: &N, step: Step<C::Label>) -> bool
     ensures { result ≡ step_good C.Cost (N.Network.meaning net.now) step }
 {
-    match net.section(step.section) {
-        Some(section) => step.from == section.from
-            && step.to == section.to
-            && C::shown(step.so_far).is_some(),
-        None => false,
-    }
+    let Some(section) = net.section(step.section) else {
+        return false;
+    };
+    step.from == section.from && step.to == section.to && C::shown(step.so_far).is_some()
 }
 
 /// Whether there is no cost and no step where there is no route.
@@ -50,39 +49,44 @@ fn meant_good<C: Cost, N: Network<C>>(net: &N, answer: &Answer<'_, C::Label>) ->
         && nothing_at::<C>(answer.outcome, answer.cost, steps)
 }
 
-/// The fault of the first step that a page cannot hold, with the offset of its record.
-fn steps_fault<C: Cost, N: Network<C>>(
+/// The first step that a page cannot hold.
+fn first_bad<C: Cost, N: Network<C>>(net: &N, steps: &[Step<C::Label>]) -> Option<usize>
+    ensures { result ≡ position (λ step. not (step_good C.Cost (N.Network.meaning net.now) step)) steps.now }
+{
+    steps.iter().position(|step| !step_good::<C, N>(net, *step))
+}
+
+/// Whether a page can hold each step; else the fault of the first that it cannot, at its record's offset.
+fn check_steps<C: Cost, N: Network<C>>(
     net: &N,
     at: usize,
     steps: &[Step<C::Label>],
-) -> Option<Fault>
+) -> Result<(), Fault>
     requires { at + 13 * length steps.now < 2 ^ 64 }
-    ensures { result ≡ steps_fault C.Cost (N.Network.meaning net.now) at steps.now }
+    ensures { result_err result ≡ steps_fault C.Cost (N.Network.meaning net.now) at steps.now }
 {
-    for k in 0..steps.len() {
-        if !step_good::<C, N>(net, steps[k]) {
-            return Some(page_fault(Refusal::FieldOutOfRange {
-                offset: at + 13 * k,
-            }));
-        }
+    match first_bad::<C, N>(net, steps) {
+        Some(k) => Err(Layer::Page.fault(Refusal::FieldOutOfRange {
+            offset: at + 13 * k,
+        })),
+        None => Ok(()),
     }
-    None
 }
 
-/// The fault of an answer that a page cannot hold, whose record has this offset.
-pub(crate) fn answer_fault<C: Cost, N: Network<C>>(
+/// Whether a page can hold an answer whose record has this offset.
+pub(crate) fn check_answer<C: Cost, N: Network<C>>(
     net: &N,
     at: usize,
     answer: &Option<Answer<'_, C::Label>>,
-) -> Option<Fault>
+) -> Result<(), Fault>
     requires { at < 2 ^ 32 }
-    ensures { result ≡ answer_fault C.Cost (N.Network.meaning net.now) at (on_some meant_of answer.now) }
+    ensures { result_err result ≡ answer_fault C.Cost (N.Network.meaning net.now) at (on_some meant_of answer.now) }
 {
     let Some(answer) = answer else {
-        return None;
+        return Ok(());
     };
     if !meant_good::<C, N>(net, answer) {
-        return Some(page_fault(Refusal::FieldOutOfRange { offset: at }));
+        return Err(Layer::Page.fault(Refusal::FieldOutOfRange { offset: at }));
     }
-    steps_fault::<C, N>(net, at + 20, answer.steps)
+    check_steps::<C, N>(net, at + 20, answer.steps)
 }

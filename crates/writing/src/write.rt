@@ -1,5 +1,6 @@
 //! Writing a page.
 ghost use Rattle.std.specs.Prelude.{◌≡◌, ◌+◌, ◌≤◌, length, take, None, Ok, Err};
+ghost use Rattle.std.specs.Result.{result_err};
 ghost use Rattle.networks.specs.Ranges.{on_some};
 ghost use Rattle.records.specs.Bytes.{overlay};
 ghost use Rattle.contents.specs.Again.{Back};
@@ -8,14 +9,13 @@ ghost use Rattle.contents.specs.Encoding.{answer_encoded};
 ghost use Rattle.contents.specs.Writing.{placed, answer_size, RunFits, Short, content_by, write_fault, write_of};
 
 use crate::bodies::{answer_body, estimate_row, header_body, section_row, step_row};
-use crate::holds::answer_fault;
+use crate::holds::check_answer;
 use crate::rows::{put, put_run};
 use amounts::cost::Cost;
 use contents::answer::Answer;
-use faults::{Fault, Refusal};
+use faults::{Fault, Layer, Refusal};
 use networks::estimates::Estimates;
 use networks::network::Network;
-use records::due::page_fault;
 use records::kinds::EndRecord;
 
 /// Where an answer at an offset ends with its steps, as far as a machine number goes.
@@ -47,26 +47,26 @@ fn put_answer<C: Cost>(page: &mut [u8], at: usize, answer: &Option<Answer<'_, C:
     at + 20 + 13 * answer.steps.len()
 }
 
-/// The fault of what cannot be written on a page of so many bytes: other stations than the network's, too short
+/// Whether all can be written on a page of so many bytes; else the fault: other stations than the network's, too short
 /// a page, then an answer that a page cannot hold.
-fn write_fault<C: Cost, N: Network<C>, E: Estimates<C>>(
+fn check_write<C: Cost, N: Network<C>, E: Estimates<C>>(
     room: usize,
     net: &N,
     estimates: &E,
     answer: &Option<Answer<'_, C::Label>>,
-) -> Option<Fault>
-    ensures { result ≡ write_fault C.Cost room (content_by (N.Network.meaning net.now) (E.Estimates.meaning estimates.now) answer.now) }
+) -> Result<(), Fault>
+    ensures { result_err result ≡ write_fault C.Cost room (content_by (N.Network.meaning net.now) (E.Estimates.meaning estimates.now) answer.now) }
 {
     let count = estimates.count();
     if count != net.stations() {
-        return Some(page_fault(Refusal::EstimateCount { count }));
+        return Err(Layer::Page.fault(Refusal::EstimateCount { count }));
     }
     let after = 10 + 12 * net.sections() + 21 * count;
     let needed = answer_end(after, answer).saturating_add(1);
     if room < needed {
-        return Some(page_fault(Refusal::PageTooShort { needed }));
+        return Err(Layer::Page.fault(Refusal::PageTooShort { needed }));
     }
-    answer_fault::<C, N>(net, after, answer)
+    check_answer::<C, N>(net, after, answer)
 }
 
 /// Puts everything on a page that can hold it, and answers how many bytes.
@@ -108,8 +108,6 @@ pub fn write<C: Cost, N: Network<C>, E: Estimates<C>>(
     ensures left { record { answer = result; page = page.new } ≡ write_of C.Cost page.old (content_by (N.Network.meaning net.now) (E.Estimates.meaning estimates.now) answer.entry) }
     ensures back { elim result [ Ok n ↦ Back C.Cost (content_by (N.Network.meaning net.now) (E.Estimates.meaning estimates.now) answer.entry) (take n page.new) | Err _ ↦ Unit {0} ] }
 {
-    if let Some(fault) = write_fault::<C, N, E>(page.len(), net, estimates, &answer) {
-        return Err(fault);
-    }
+    check_write::<C, N, E>(page.len(), net, estimates, &answer)?;
     Ok(put_page::<C, N, E>(page, net, estimates, &answer))
 }

@@ -6,7 +6,7 @@ use Rattle.records.specs.Shapes.{encoded}
 use Rattle.records.specs.Layout.{answer_shape}
 use Rattle.contents.specs.Content.{meant_of}
 use Rattle.contents.specs.Encoding.{step_record}
-use Rattle.contents.specs.Writing.{answer_size, RunFits, Short}
+use Rattle.contents.specs.Writing.{answer_size, RunFits}
 use Rattle.contents.proofs.Wrote.{none_put, some_put}
 use Rattle.writing.proofs.write.put_answer.Goals as goal
 
