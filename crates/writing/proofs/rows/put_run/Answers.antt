@@ -12,9 +12,3 @@ loop-k-preserved g c rs made =
     c.put.ensures
     ∙ run_step g.R.Record.shape g.met.R.Record.lawful c.args.page.now c.args.at k rs c.in-Some.body c.loop-k.page _ (c.loop-k.invariant rs made)
     (sym c.in-Some.is ∙ made.each k _ c.loop-k-test.true c.make.ensures) (omega arith) (rw many c.requires.room) (ap (λ n. c.args.at + n * k) c.size.ensures)
-
-pub returns : goal.returns
-returns g c rs made =
-    let many = made.many in
-    c.loop-k.invariant rs made
-    ∙ ap (λ l. overlay c.args.page.now c.args.at (encoded_run g.R.Record.shape l)) (take_all c.loop-k.k rs (omega arith))

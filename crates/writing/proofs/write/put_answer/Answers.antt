@@ -10,26 +10,6 @@ use Rattle.contents.specs.Writing.{answer_size, RunFits}
 use Rattle.contents.proofs.Wrote.{none_put, some_put}
 use Rattle.writing.proofs.write.put_answer.Goals as goal
 
-pub returns-in_default : goal.returns-in_default
-returns-in_default g c =
-    let o = on_some meant_of c.args.answer.now in
-    let none : o ≡ None = ap (on_some meant_of) c.in_default.is in
-    record {
-      end = omega (arith, ap answer_size none);
-      run = rw none tt;
-      page = none_put g.C.Cost c.args.page.now c.args.at o none;
-    }
-
-pub put_run-requires : goal.put_run-requires
-put_run-requires g c =
-    let o = on_some meant_of c.args.answer.now in
-    let some : o ≡ Some (meant_of c.in-Some.answer) = ap (on_some meant_of) c.in-Some.is in
-    let steps = c.in-Some.answer.steps.now in
-    record {
-      room = omega (arith, ap answer_size some, length-map steps (step_record g.C.Cost));
-      each = λ k h. search rules;
-    }
-
 pub returns : goal.returns
 returns g c =
     let o = on_some meant_of c.args.answer.now in

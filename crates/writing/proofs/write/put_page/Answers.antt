@@ -11,23 +11,6 @@ use Rattle.contents.proofs.Holding.{answer_valid, short}
 use Rattle.contents.proofs.Wrote.{page_put, nothing_refused, write_left, write_back}
 use Rattle.writing.proofs.write.put_page.Goals as goal
 
-pub put_run-requires : goal.put_run-requires
-put_run-requires g c =
-    let net = g.N.Network.meaning c.args.net.now in
-    let x = content_by net (g.E.Estimates.meaning c.args.estimates.now) c.args.answer.now in
-    let room : needed x ≤ length c.args.page.now = (nothing_refused g.C.Cost c.args.page.now x _ c.requires).1 in
-    let n = length-map net.sections (section_record g.C.Cost) in
-    let few = c.stations-stations.ensures.range.short in
-    record { room = omega arith; each = λ k h. search rules }
-
-pub put_run-requires-2 : goal.put_run-requires-2
-put_run-requires-2 g c =
-    let pairs = g.E.Estimates.meaning c.args.estimates.now in
-    let x = content_by (g.N.Network.meaning c.args.net.now) pairs c.args.answer.now in
-    let room : needed x ≤ length c.args.page.now = (nothing_refused g.C.Cost c.args.page.now x _ c.requires).1 in
-    let n = length-map pairs (estimate_record g.C.Cost) in
-    record { room = omega arith; each = λ k h. search rules }
-
 pub put_answer-end-requires : goal.put_answer-end-requires
 put_answer-end-requires g c =
     let net = g.N.Network.meaning c.args.net.now in
