@@ -10,7 +10,7 @@ pub loop-k-init : goal.loop-k-init
 loop-k-init g c =
     let k = g.C.Cost in
     let bs = c.args.self.now.bytes.now in
-    ap₂ (λ u a. walks k (net_of k bs) u a c.args.total (steps_in (answer_of k bs))) c.launcher-station.ensures c.nought-cost.ensures
+    ap₂ (λ u a. walks k (net_of k bs) u a c.args.total (steps_in (answer_of k bs))) c.launcher-station.ensures (c.ZERO-cost.ensures ∙ g.met.C.Cost.zero)
 
 pub loop-k-preserved : goal.loop-k-preserved
 loop-k-preserved g c =
