@@ -9,7 +9,7 @@ use Rattle.records.specs.declared.kinds.StepRecord.{StepRecord}
 use Rattle.records.specs.Layout.{answer_shape, step_shape}
 use Rattle.records.specs.Shapes.{decoded, decoded_run}
 use Rattle.records.proofs.Passing.{length-decoded_run}
-use Rattle.contents.specs.declared.answer.Filed.{Filed}
+use Rattle.contents.specs.declared.answer.Answer.{Answer}
 use Rattle.contents.specs.Checks.{header_of, answer_bytes, has_answer, step_bytes}
 use Rattle.contents.proofs.Accepting.{answer_place}
 use Rattle.contents.specs.Content.{Meant, filed_by, meant_by, step_from, net_of, answer_of}
@@ -57,7 +57,7 @@ module _ {C L S : Type 0} (c : cost.Ghosts C L S) (bs : List ℕ) where
       length-map run (step_from c (net_of c bs).sections) ∙ length-decoded_run step_shape a.steps (step_bytes (answer_bytes bs))
 
 -- the answer behind what a view tells of it
-pub filed_some : {L : Type 0} (o : Option (Meant L)) (f : Filed L) → Some f ≡ on_some filed_by o → (m : Meant L) × (o ≡ Some m) × (f ≡ filed_by m)
+pub filed_some : {L : Type 0} (o : Option (Meant L)) (f : Answer L ℕ) → Some f ≡ on_some filed_by o → (m : Meant L) × (o ≡ Some m) × (f ≡ filed_by m)
 filed_some None f e = let z : ◌≡◌ {A = ℕ} 0 1 = cc in absurd (omega arith)
 filed_some (Some m) f e = (m, refl, cc)
 

@@ -1,5 +1,5 @@
 -- One write after another.
-use Rattle.std.proofs.Common.{◌≡◌, ℕ, ◌+◌, ◌-◌, ◌*◌, ◌<◌, ◌≤◌, List, [], ◌∷◌, ◌++◌, length, get_or, take, drop, replicate, Some, sym, ap, ◌∙◌, add-zero, add_assoc, mul-le-mul_left, zero-add, arith}
+use Rattle.std.proofs.Common.{◌≡◌, ℕ, ◌+◌, ◌-◌, ◌*◌, ◌<◌, ◌≤◌, List, [], ◌∷◌, ◌++◌, length, get_or, take, drop, Some, sym, ap, ◌∙◌, add-zero, add_assoc, mul-le-mul_left, zero-add, arith}
 use borrow.Rule.Slice.PartMut.{put_mid}
 use Rattle.std.specs.List.{slice_get}
 use Rattle.std.proofs.lemmas.List.{take-append-drop, append_assoc, append-nil, length-append, drop-drop, take_at, drop_at, length-take-le, take_more}
@@ -55,12 +55,6 @@ take_nth xs i x h e =
     take_more xs i x h ∙ ap (λ y. take i xs ++ (y ∷ [])) same
 
 module _ {R : Type 0} (shape : Shape R) (laws : ShapeLaws shape) where
-  -- the front of what is padded is the record
-  pub padded_front : (r : R) (size : ℕ) (padded : List ℕ) → padded ≡ encoded shape r ++ replicate (21 - size_of shape) 0 → size ≡ size_of shape → take size padded ≡ encoded shape r
-  padded_front r size padded e n =
-      let l = length-encoded shape laws r in
-      ap (take size) e ∙ take_at (encoded shape r) (replicate (21 - size_of shape) 0) size (omega arith)
-
   run_push : (rs : List R) (r : R) → encoded_run shape (rs ++ (r ∷ [])) ≡ encoded_run shape rs ++ encoded shape r
   run_push [] r = append-nil (encoded shape r)
   run_push (q ∷ rs) r = ap (λ l. encoded shape q ++ l) (run_push rs r) ∙ sym (append_assoc (encoded shape q) (encoded_run shape rs) (encoded shape r))

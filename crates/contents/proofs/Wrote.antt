@@ -14,7 +14,7 @@ use Rattle.contents.specs.Encoding.{section_record, estimate_record, step_record
 use Rattle.records.specs.Due.{page_fault}
 use Rattle.faults.specs.declared.Refusal.TheVariants.{EstimateCount, PageTooShort}
 use Rattle.contents.specs.Writing.{answer_size, needed, answer_fault, write_fault, write_of}
-use Rattle.contents.proofs.Forming.{section_laws, estimate_laws}
+use Rattle.records.specs.Laws.{section_laws, estimate_laws}
 use Rattle.contents.proofs.Overlays.{overlay_none, overlay_more, overlay_front, overlay_five}
 use Rattle.contents.proofs.Returning.{written_reads, answer_length, encode_length}
 

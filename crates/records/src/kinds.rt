@@ -1,8 +1,7 @@
 //! The kinds of records.
 ghost use Rattle.records.specs.Layout.{header_shape, section_shape, estimate_shape, answer_shape, step_shape, end_shape};
+ghost use Rattle.records.specs.Laws.{header_laws, section_laws, estimate_laws, answer_laws, step_laws, end_laws};
 ghost use Rattle.std.specs.Prelude.{refl};
-ghost use Rattle.std.proofs.Common.{lit<, lit≤};
-ghost use Rattle.records.specs.Fields.{placed_all};
 
 use crate::limits::{Limits, MOST_SECTIONS, MOST_STATIONS, MOST_STEPS};
 use crate::numbers::{label_bytes, label_fits, label_of, moves_fit, section_bytes, section_of};
@@ -29,7 +28,7 @@ impl Record<{ SectionRecord::SIZE }> for SectionRecord {
 
     ghost KIND = { 0x53 };
 
-    ghost lawful = { record { byte = lit< tt; short = lit≤ tt; of_fields = λ r. refl; fields_of = placed_all 5 } };
+    ghost lawful = { section_laws };
 
     ghost kinded = { refl };
 
@@ -84,7 +83,7 @@ impl Record<{ HeaderRecord::SIZE }> for HeaderRecord {
 
     ghost KIND = { 0x48 };
 
-    ghost lawful = { record { byte = lit< tt; short = lit≤ tt; of_fields = λ r. refl; fields_of = placed_all 5 } };
+    ghost lawful = { header_laws };
 
     ghost kinded = { refl };
 
@@ -140,7 +139,7 @@ impl Record<{ EstimateRecord::SIZE }> for EstimateRecord {
 
     ghost KIND = { 0x45 };
 
-    ghost lawful = { record { byte = lit< tt; short = lit≤ tt; of_fields = λ r. refl; fields_of = placed_all 4 } };
+    ghost lawful = { estimate_laws };
 
     ghost kinded = { refl };
 
@@ -234,7 +233,7 @@ impl Record<{ AnswerRecord::SIZE }> for AnswerRecord {
 
     ghost KIND = { 0x41 };
 
-    ghost lawful = { record { byte = lit< tt; short = lit≤ tt; of_fields = λ r. refl; fields_of = placed_all 6 } };
+    ghost lawful = { answer_laws };
 
     ghost kinded = { refl };
 
@@ -334,7 +333,7 @@ impl Record<{ StepRecord::SIZE }> for StepRecord {
 
     ghost KIND = { 0x50 };
 
-    ghost lawful = { record { byte = lit< tt; short = lit≤ tt; of_fields = λ r. refl; fields_of = placed_all 3 } };
+    ghost lawful = { step_laws };
 
     ghost kinded = { refl };
 
@@ -376,7 +375,7 @@ impl Record<{ EndRecord::SIZE }> for EndRecord {
 
     ghost KIND = { 0x5a };
 
-    ghost lawful = { record { byte = lit< tt; short = lit≤ tt; of_fields = λ r. refl; fields_of = placed_all 0 } };
+    ghost lawful = { end_laws };
 
     ghost kinded = { refl };
 
