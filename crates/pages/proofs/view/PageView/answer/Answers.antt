@@ -14,6 +14,6 @@ returns g c =
     let bs = c.args.self.now.bytes.now in
     let k = g.C.Cost in
     let a = c.in_ok-body.body in
-    let steps = c.from-2.ensures ∙ sym (meaning_steps k bs a) in
-    let same : record { run = a.run; outcome = c.outcome_by.result; cost = c.label_from.result; taken = c.from.result; steps = c.from-2.result } ≡ filed_by (meaning k bs a) = cc in
+    let steps = c.from-3.ensures ∙ sym (meaning_steps k bs a) in
+    let same : record { run = a.run; outcome = c.from.result; cost = c.label_from.result; taken = c.from-2.result; steps = c.from-3.result } ≡ filed_by (meaning k bs a) = cc in
     ap Some same ∙ ap (on_some filed_by) (answer_some k bs a (sym c.in_ok-body.was ∙ c.answer_record.ensures))
