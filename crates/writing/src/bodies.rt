@@ -3,11 +3,11 @@ ghost use Rattle.std.specs.Prelude.{◌≡◌, ◌^◌, ◌<◌, map, length};
 ghost use Rattle.std.specs.List.{AllByRecursion};
 ghost use Rattle.networks.specs.Nets.{InRange};
 ghost use Rattle.contents.specs.Content.{meant_of};
-ghost use Rattle.contents.specs.Encoding.{form_of, outcome_number, header_record, section_record, estimate_record, answer_record, step_record};
+ghost use Rattle.contents.specs.Encoding.{form_of, header_record, section_record, estimate_record, answer_record, step_record};
 
 use crate::rows::Rows;
 use amounts::cost::{Cost, LabelForm};
-use contents::answer::{Answer, Outcome, Step};
+use contents::answer::{Step, Told};
 use networks::estimates::{Estimates, Pair};
 use networks::network::Network;
 use networks::section::Section;
@@ -19,13 +19,10 @@ use std::marker::PhantomData;
 pub(crate) fn form_of<C: Cost>(amount: C::Label) -> LabelForm
     ensures { result ≡ form_of C.Cost amount }
 {
-    match C::shown(amount) {
-        Some(form) => form,
-        None => LabelForm {
-            moves: 0,
-            samples: 0,
-        },
-    }
+    C::shown(amount).unwrap_or(LabelForm {
+        moves: 0,
+        samples: 0,
+    })
 }
 
 pub(crate) fn header_body<C: Cost, N: Network<C>>(net: &N) -> HeaderRecord
@@ -45,35 +42,20 @@ fn section_body<C: Cost>(section: Section<C::Section>) -> SectionRecord
     requires to { section.to < 2 ^ 16 }
     ensures { result ≡ section_record C.Cost section }
 {
-    let form = C::parts(section.amount);
     SectionRecord {
         state: u8::from(section.shut),
         from: section.from as u16,
         to: section.to as u16,
-        moves: form.moves,
-        samples: form.samples,
+        amount: C::parts(section.amount),
     }
 }
 
 fn estimate_body<C: Cost>(pair: Pair<C::Label>) -> EstimateRecord
     ensures { result ≡ estimate_record C.Cost pair }
 {
-    let forward = form_of::<C>(pair.forward);
-    let backward = form_of::<C>(pair.backward);
     EstimateRecord {
-        forward_moves: forward.moves,
-        forward_samples: forward.samples,
-        backward_moves: backward.moves,
-        backward_samples: backward.samples,
-    }
-}
-
-fn outcome_number(outcome: Outcome) -> u8
-    ensures { result ≡ outcome_number outcome }
-{
-    match outcome {
-        Outcome::Found => 0,
-        Outcome::NoRoute => 1,
+        forward: form_of::<C>(pair.forward),
+        backward: form_of::<C>(pair.backward),
     }
 }
 
@@ -85,18 +67,16 @@ fn run_number(run: u32) -> u32
     run
 }
 
-pub(crate) fn answer_body<C: Cost>(answer: &Answer<'_, C::Label>) -> AnswerRecord
+pub(crate) fn answer_body<C: Cost>(answer: &Told<'_, C::Label>) -> AnswerRecord
     requires steps { length answer.now.steps.now < 2 ^ 16 }
     requires taken { answer.now.taken < 2 ^ 16 }
     ensures run { answer.now.run < 2 ^ 32 }
     ensures body { result ≡ answer_record C.Cost (meant_of answer.now) }
 {
-    let form = form_of::<C>(answer.cost);
     AnswerRecord {
         run: run_number(answer.run),
-        outcome: outcome_number(answer.outcome),
-        moves: form.moves,
-        samples: form.samples,
+        outcome: answer.outcome as u8,
+        cost: form_of::<C>(answer.cost),
         steps: answer.steps.len() as u16,
         taken: answer.taken as u16,
     }
@@ -106,11 +86,9 @@ fn step_body<C: Cost>(step: Step<C::Label>) -> StepRecord
     requires { step.section < 2 ^ 16 }
     ensures { result ≡ step_record C.Cost step }
 {
-    let form = form_of::<C>(step.so_far);
     StepRecord {
         section: step.section as u16,
-        moves: form.moves,
-        samples: form.samples,
+        so_far: form_of::<C>(step.so_far),
     }
 }
 
@@ -121,7 +99,7 @@ pub(crate) struct SectionRows<'a, C: Cost, N: Network<C>> {
     pub(crate) tag: PhantomData<C>,
 }
 
-impl<'a, C: Cost, N: Network<C>> Rows for SectionRows<'a, C, N> {
+impl<'a, C: Cost, N: Network<C>> Rows<{ SectionRecord::SIZE }> for SectionRows<'a, C, N> {
     type Body = SectionRecord;
 
     ghost bodies = { λ s. map (section_record C.Cost) (N.Network.meaning s.net.now).sections };
@@ -140,7 +118,7 @@ pub(crate) struct EstimateRows<'a, C: Cost, E: Estimates<C>> {
     pub(crate) tag: PhantomData<C>,
 }
 
-impl<'a, C: Cost, E: Estimates<C>> Rows for EstimateRows<'a, C, E> {
+impl<'a, C: Cost, E: Estimates<C>> Rows<{ EstimateRecord::SIZE }> for EstimateRows<'a, C, E> {
     type Body = EstimateRecord;
 
     ghost bodies = { λ s. map (estimate_record C.Cost) (E.Estimates.meaning s.estimates.now) };
@@ -158,7 +136,7 @@ pub(crate) struct StepRows<'a, C: Cost> {
     pub(crate) steps: &'a [Step<C::Label>],
 }
 
-impl<'a, C: Cost> Rows for StepRows<'a, C> {
+impl<'a, C: Cost> Rows<{ StepRecord::SIZE }> for StepRows<'a, C> {
     type Body = StepRecord;
 
     ghost bodies = { λ s. map (step_record C.Cost) s.steps.now };

@@ -6,13 +6,11 @@ ghost use Rattle.contents.specs.Writing.{step_good, nothing_at, meant_good, step
 
 use crate::bodies::form_of;
 use amounts::cost::Cost;
-use contents::answer::{Answer, Outcome, Step};
-use faults::{Fault, Refusal};
+use contents::answer::{Outcome, Step, Told};
+use faults::{Fault, Layer, Refusal};
 use networks::network::Network;
-use records::due::page_fault;
-
-/// The most steps of an answer.
-const MOST_STEPS: usize = 4095;
+use records::kinds::{AnswerRecord, StepRecord};
+use records::limits::MOST_STEPS;
 
 /// Whether the section is there, with these ends, and the cost so far stands on a page.
 fn step_good<C: Cost, N: Network<C>>(net: &N, step: Step<C::Label>) -> bool
@@ -40,12 +38,12 @@ fn nothing_at<C: Cost>(outcome: Outcome, cost: C::Label, steps: usize) -> bool
 }
 
 /// Whether a page can hold an answer, apart from its steps.
-fn meant_good<C: Cost, N: Network<C>>(net: &N, answer: &Answer<'_, C::Label>) -> bool
+fn meant_good<C: Cost, N: Network<C>>(net: &N, answer: &Told<'_, C::Label>) -> bool
     ensures { result ≡ meant_good C.Cost (N.Network.meaning net.now) (meant_of answer.now) }
 {
     let steps = answer.steps.len();
     C::shown(answer.cost).is_some()
-        && steps <= MOST_STEPS
+        && steps <= usize::from(MOST_STEPS)
         && answer.taken < net.stations()
         && nothing_at::<C>(answer.outcome, answer.cost, steps)
 }
@@ -61,8 +59,8 @@ fn steps_fault<C: Cost, N: Network<C>>(
 {
     for k in 0..steps.len() {
         if !step_good::<C, N>(net, steps[k]) {
-            return Some(page_fault(Refusal::FieldOutOfRange {
-                offset: at + 13 * k,
+            return Some(Layer::Page.fault(Refusal::FieldOutOfRange {
+                offset: at + StepRecord::SIZE * k,
             }));
         }
     }
@@ -73,7 +71,7 @@ fn steps_fault<C: Cost, N: Network<C>>(
 pub(crate) fn answer_fault<C: Cost, N: Network<C>>(
     net: &N,
     at: usize,
-    answer: &Option<Answer<'_, C::Label>>,
+    answer: &Option<Told<'_, C::Label>>,
 ) -> Option<Fault>
     requires { at < 2 ^ 32 }
     ensures { result ≡ answer_fault C.Cost (N.Network.meaning net.now) at (on_some meant_of answer.now) }
@@ -82,7 +80,7 @@ pub(crate) fn answer_fault<C: Cost, N: Network<C>>(
         return None;
     };
     if !meant_good::<C, N>(net, answer) {
-        return Some(page_fault(Refusal::FieldOutOfRange { offset: at }));
+        return Some(Layer::Page.fault(Refusal::FieldOutOfRange { offset: at }));
     }
-    steps_fault::<C, N>(net, at + 20, answer.steps)
+    steps_fault::<C, N>(net, at + AnswerRecord::SIZE, answer.steps)
 }

@@ -7,8 +7,8 @@ ghost use Rattle.records.specs.Shapes.{size_of, encoded, encoded_run};
 use records::record::Record;
 
 /// Records in a row, which are made one at a time.
-pub(crate) trait Rows {
-    type Body: Record + Drop;
+pub(crate) trait Rows<const SIZE: usize> {
+    type Body: Record<SIZE> + Drop;
 
     ghost bodies: { Self → List Self.Body };
 
@@ -22,25 +22,22 @@ pub(crate) trait Rows {
 }
 
 /// Puts a record's bytes over those of the page from an offset on.
-pub(crate) fn put<R: Record>(page: &mut [u8], at: usize, body: &R)
+pub(crate) fn put<R: Record<SIZE>, const SIZE: usize>(page: &mut [u8], at: usize, body: &R)
     requires { at + size_of R.Record.shape ≤ length page.old }
     ensures { page.new ≡ overlay page.old at (encoded R.Record.shape body.now) }
 {
-    let size = R::size();
-    let bytes = body.padded();
-    page[at..at + size].copy_from_slice(&bytes[0..size]);
+    page[at..at + SIZE].copy_from_slice(&body.bytes());
 }
 
 /// Puts records over the bytes of the page, one after another from an offset on.
-pub(crate) fn put_run<T: Rows>(page: &mut [u8], at: usize, rows: &T)
+pub(crate) fn put_run<T: Rows<SIZE>, const SIZE: usize>(page: &mut [u8], at: usize, rows: &T)
     requires room { at + size_of T.Body.Record.shape * length (T.Rows.bodies rows.now) ≤ length page.old }
     requires ready { T.Rows.ready rows.now }
     ensures { page.new ≡ overlay page.old at (encoded_run T.Body.Record.shape (T.Rows.bodies rows.now)) }
 {
-    let size = T::Body::size();
     let mut k = 0;
     while let Some(body) = rows.body(k) {
-        put(page, at + size * k, &body);
+        put(page, at + SIZE * k, &body);
         k += 1;
     }
 }

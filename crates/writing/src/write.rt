@@ -11,28 +11,29 @@ use crate::bodies::{EstimateRows, SectionRows, StepRows, answer_body, header_bod
 use crate::holds::answer_fault;
 use crate::rows::{put, put_run};
 use amounts::cost::Cost;
-use contents::answer::Answer;
-use faults::{Fault, Refusal};
+use contents::answer::Told;
+use faults::{Fault, Layer, Refusal};
 use networks::estimates::Estimates;
 use networks::network::Network;
-use records::due::page_fault;
-use records::kinds::EndRecord;
+use records::kinds::{
+    AnswerRecord, EndRecord, EstimateRecord, HeaderRecord, SectionRecord, StepRecord,
+};
 use std::marker::PhantomData;
 
 /// Where an answer at an offset ends with its steps, as far as a machine number goes.
-fn answer_end<L>(at: usize, answer: &Option<Answer<'_, L>>) -> usize
+fn answer_end<L>(at: usize, answer: &Option<Told<'_, L>>) -> usize
     ensures { result ≡ placed (at + answer_size (on_some meant_of answer.now)) }
 {
     match answer {
         Some(answer) => at
-            .saturating_add(20)
-            .saturating_add(answer.steps.len().saturating_mul(13)),
+            .saturating_add(AnswerRecord::SIZE)
+            .saturating_add(answer.steps.len().saturating_mul(StepRecord::SIZE)),
         None => at,
     }
 }
 
 /// Puts an answer with its steps, if there is one, on the page from an offset on, and answers where they end.
-fn put_answer<C: Cost>(page: &mut [u8], at: usize, answer: &Option<Answer<'_, C::Label>>) -> usize
+fn put_answer<C: Cost>(page: &mut [u8], at: usize, answer: &Option<Told<'_, C::Label>>) -> usize
     requires room { at + answer_size (on_some meant_of answer.now) ≤ length page.old }
     requires short { Short (on_some meant_of answer.now) }
     ensures end { result ≡ at + answer_size (on_some meant_of answer.now) }
@@ -45,12 +46,12 @@ fn put_answer<C: Cost>(page: &mut [u8], at: usize, answer: &Option<Answer<'_, C:
     put(page, at, &answer_body::<C>(answer));
     put_run(
         page,
-        at + 20,
+        at + AnswerRecord::SIZE,
         &StepRows::<C> {
             steps: answer.steps,
         },
     );
-    at + 20 + 13 * answer.steps.len()
+    at + AnswerRecord::SIZE + StepRecord::SIZE * answer.steps.len()
 }
 
 /// The fault of what cannot be written on a page of so many bytes: other stations than the network's, too short
@@ -59,18 +60,20 @@ fn write_fault<C: Cost, N: Network<C>, E: Estimates<C>>(
     room: usize,
     net: &N,
     estimates: &E,
-    answer: &Option<Answer<'_, C::Label>>,
+    answer: &Option<Told<'_, C::Label>>,
 ) -> Option<Fault>
     ensures { result ≡ write_fault C.Cost room (content_by (N.Network.meaning net.now) (E.Estimates.meaning estimates.now) answer.now) }
 {
     let count = estimates.count();
     if count != net.stations() {
-        return Some(page_fault(Refusal::EstimateCount { count }));
+        return Some(Layer::Page.fault(Refusal::EstimateCount { count }));
     }
-    let after = 10 + 12 * net.sections() + 21 * count;
-    let needed = answer_end(after, answer).saturating_add(1);
+    let after = HeaderRecord::SIZE
+        + SectionRecord::SIZE * net.sections()
+        + EstimateRecord::SIZE * count;
+    let needed = answer_end(after, answer).saturating_add(EndRecord::SIZE);
     if room < needed {
-        return Some(page_fault(Refusal::PageTooShort { needed }));
+        return Some(Layer::Page.fault(Refusal::PageTooShort { needed }));
     }
     answer_fault::<C, N>(net, after, answer)
 }
@@ -80,7 +83,7 @@ fn put_page<C: Cost, N: Network<C>, E: Estimates<C>>(
     page: &mut [u8],
     net: &N,
     estimates: &E,
-    answer: &Option<Answer<'_, C::Label>>,
+    answer: &Option<Told<'_, C::Label>>,
 ) -> usize
     requires { write_fault C.Cost (length page.old) (content_by (N.Network.meaning net.now) (E.Estimates.meaning estimates.now) answer.now) ≡ None }
     ensures left { record { answer = Ok result; page = page.new } ≡ write_of C.Cost page.old (content_by (N.Network.meaning net.now) (E.Estimates.meaning estimates.now) answer.now) }
@@ -89,12 +92,12 @@ fn put_page<C: Cost, N: Network<C>, E: Estimates<C>>(
     let count = estimates.count();
     // Asked for what it promises: that the network is in range.
     let _stations = net.stations();
-    let pairs = 10 + 12 * net.sections();
-    let after = pairs + 21 * count;
+    let pairs = HeaderRecord::SIZE + SectionRecord::SIZE * net.sections();
+    let after = pairs + EstimateRecord::SIZE * count;
     put(page, 0, &header_body::<C, N>(net));
     put_run(
         page,
-        10,
+        HeaderRecord::SIZE,
         &SectionRows::<C, N> {
             net,
             tag: PhantomData,
@@ -110,7 +113,7 @@ fn put_page<C: Cost, N: Network<C>, E: Estimates<C>>(
     );
     let end = put_answer::<C>(page, after, answer);
     put(page, end, &EndRecord);
-    end + 1
+    end + EndRecord::SIZE
 }
 
 /// Writes a network, estimates and perhaps an answer over the front of the page, and answers how many bytes.
@@ -119,7 +122,7 @@ pub fn write<C: Cost, N: Network<C>, E: Estimates<C>>(
     page: &mut [u8],
     net: &N,
     estimates: &E,
-    answer: Option<Answer<'_, C::Label>>,
+    answer: Option<Told<'_, C::Label>>,
 ) -> Result<usize, Fault>
     ensures left { record { answer = result; page = page.new } ≡ write_of C.Cost page.old (content_by (N.Network.meaning net.now) (E.Estimates.meaning estimates.now) answer.entry) }
     ensures back { elim result [ Ok n ↦ Back C.Cost (content_by (N.Network.meaning net.now) (E.Estimates.meaning estimates.now) answer.entry) (take n page.new) | Err _ ↦ Unit {0} ] }

@@ -5,7 +5,7 @@ use Rattle.writing.proofs.holds.steps_fault.Goals as goal
 pub returns-then-not-step_good : goal.returns-then-not-step_good
 returns-then-not-step_good g c =
     let net = g.N.Network.meaning c.args.net.now in
-    ap Some c.page_fault.ensures
+    ap Some c.fault.ensures
     ∙ fault_here g.C.Cost net c.args.at c.args.steps.now c.loop-k.k c.index-steps-k.result c.loop-k-test.true c.index-steps-k.is (sym c.step_good.ensures ∙ c.if-not-step_good.true)
     ∙ c.loop-k.invariant
 

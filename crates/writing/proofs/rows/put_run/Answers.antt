@@ -10,23 +10,23 @@ use Rattle.writing.proofs.rows.put_run.Goals as goal
 pub loop-body-init : goal.loop-body-init
 loop-body-init g c = sym (overlay_none c.args.page.now c.args.at)
 
-pub overflow_mul-size : goal.overflow_mul-size
-overflow_mul-size g c =
+pub overflow_mul-k : goal.overflow_mul-k
+overflow_mul-k g c =
     let rows = g.T.Rows.bodies c.args.rows.now in
     let there = row_room g.T.Body.Record.shape c.args.at rows c.loop-body.k _ (length c.args.page.now) c.in-Some.ensures c.requires.room in
-    omega (arith, ap (λ n. n * c.loop-body.k) c.size-size.ensures)
+    omega (arith, ap (λ n. n * c.loop-body.k) g.met.T.Body.Record.sized)
 
 pub overflow_add-at : goal.overflow_add-at
 overflow_add-at g c =
     let rows = g.T.Rows.bodies c.args.rows.now in
     let there = row_room g.T.Body.Record.shape c.args.at rows c.loop-body.k _ (length c.args.page.now) c.in-Some.ensures c.requires.room in
-    omega (arith, ap (λ n. n * c.loop-body.k) c.size-size.ensures)
+    omega (arith, ap (λ n. n * c.loop-body.k) g.met.T.Body.Record.sized)
 
 pub put-requires : goal.put-requires
 put-requires g c =
     let rows = g.T.Rows.bodies c.args.rows.now in
     let there = row_room g.T.Body.Record.shape c.args.at rows c.loop-body.k _ (length c.args.page.now) c.in-Some.ensures c.requires.room in
-    omega (arith, ap (λ n. n * c.loop-body.k) c.size-size.ensures)
+    omega (arith, ap (λ n. n * c.loop-body.k) g.met.T.Body.Record.sized)
 
 pub overflow_add-k : goal.overflow_add-k
 overflow_add-k g c =
@@ -47,7 +47,7 @@ loop-body-preserved g c =
     let shape = g.T.Body.Record.shape in
     c.put.ensures
     ∙ run_step shape g.met.T.Body.Record.lawful c.args.page.now c.args.at k rows _ c.loop-body.page _ c.loop-body.invariant c.in-Some.ensures (below_nth rows k _ c.in-Some.ensures) c.requires.room
-    (ap (λ n. c.args.at + n * k) c.size-size.ensures)
+    (ap (λ n. c.args.at + n * k) g.met.T.Body.Record.sized)
 
 pub returns : goal.returns
 returns g c =

@@ -1,7 +1,7 @@
 use Rattle.std.proofs.Common.{Some, sym, ap, ◌∙◌}
 use Rattle.contents.specs.Encoding.{estimate_record}
 use Rattle.contents.proofs.Mapped.{mapped_some, mapped_none}
-use Rattle.writing.proofs.bodies.EstimateRowsRows.body.Goals as goal
+use Rattle.writing.proofs.bodies.EstimateRowsRowsEstimateRecordSIZE.body.Goals as goal
 
 pub returns-in_err-pair : goal.returns-in_err-pair
 returns-in_err-pair g c =

@@ -3,7 +3,7 @@ use Rattle.std.proofs.lemmas.Option.{slice_get-get_or, slice_get_past}
 use Rattle.std.proofs.ByRecursion.{All-get_or}
 use Rattle.contents.specs.Encoding.{step_record}
 use Rattle.contents.proofs.Mapped.{mapped_some, mapped_none}
-use Rattle.writing.proofs.bodies.StepRowsRows.body.Goals as goal
+use Rattle.writing.proofs.bodies.StepRowsRowsStepRecordSIZE.body.Goals as goal
 
 pub step_body-requires : goal.step_body-requires
 step_body-requires g c =

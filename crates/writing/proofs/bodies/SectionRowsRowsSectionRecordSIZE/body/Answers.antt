@@ -2,7 +2,7 @@ use Rattle.std.proofs.Common.{Some, sym, ap, ◌∙◌, arith}
 use Rattle.networks.specs.Nets.{SectionInRange}
 use Rattle.contents.specs.Encoding.{section_record}
 use Rattle.contents.proofs.Mapped.{mapped_some, mapped_none, all_nth}
-use Rattle.writing.proofs.bodies.SectionRowsRows.body.Goals as goal
+use Rattle.writing.proofs.bodies.SectionRowsRowsSectionRecordSIZE.body.Goals as goal
 
 pub returns-in_err-section : goal.returns-in_err-section
 returns-in_err-section g c =
