@@ -4,7 +4,7 @@ use Rattle.std.specs.List.{AllByRecursion}
 use Rattle.std.specs.Option.{unwrap_or}
 use Rattle.std.proofs.ByRecursion.{All-drop, All-map, All-weaker}
 use Rattle.std.proofs.lemmas.List.{length-map}
-use Rattle.std.proofs.lemmas.Bool.{false≢true, and_parts, eqb-true, ltb-true, leb-true, lt-ltb}
+use Rattle.std.proofs.lemmas.Bool.{and_parts, eqb-true, ltb-true, leb-true, lt-ltb}
 use Rattle.faults.specs.declared.Fault.{Fault}
 use Rattle.records.specs.Bytes.{Bytes}
 use Rattle.records.specs.Shapes.{decoded, decoded_run}
@@ -46,15 +46,15 @@ bytes_drop n bs h = All-drop (λ b. b < 256) n bs h
 
 pub ok_is : {A : Type 0} (r : Result A Fault) → is_ok r ≡ true → (a : A) × (r ≡ Ok a)
 ok_is (Ok a) e = (a, refl)
-ok_is (Err f) e = absurd (false≢true e)
+ok_is (Err f) e = cc
 
 pub then_first : {A B : Type 0} (r : Result A Fault) (s : Result B Fault) → is_ok (result_and r s) ≡ true → is_ok r ≡ true
 then_first (Ok a) s e = refl
-then_first (Err f) s e = absurd (false≢true e)
+then_first (Err f) s e = cc
 
 pub then_second : {A B : Type 0} (r : Result A Fault) (s : Result B Fault) → is_ok (result_and r s) ≡ true → is_ok s ≡ true
 then_second (Ok a) s e = e
-then_second (Err f) s e = absurd (false≢true e)
+then_second (Err f) s e = cc
 
 -- The parts of an accepted page ----------------------------------------------------------------
 
@@ -90,10 +90,10 @@ accepted kind bs all ok =
 -- what the answer of the checks tells, with a header or without
 pub headed_ok : {A : Type 0} (a x : A) (r : Result (Unit {0}) Fault) → Ok a ≡ headed x r → (a ≡ x) × (r ≡ Ok tt)
 headed_ok a x (Ok u) e = (cc, refl)
-headed_ok a x (Err f) e = let z : ◌≡◌ {A = ℕ} 0 1 = cc in absurd (omega arith)
+headed_ok a x (Err f) e = cc
 
 pub headed_err : {A : Type 0} (x : A) (r : Result (Unit {0}) Fault) (f : Fault) → Err f ≡ headed x r → Err f ≡ r
-headed_err x (Ok u) f e = let z : ◌≡◌ {A = ℕ} 0 1 = cc in absurd (omega arith)
+headed_err x (Ok u) f e = cc
 headed_err x (Err g) f e = cc
 
 -- an accepted page is of the kind that it was read for

@@ -1,5 +1,5 @@
 -- The checks of a page, one after another.
-use Rattle.std.proofs.Common.{◌≡◌, ℕ, ◌-◌, ◌*◌, Bool, true, false, cond, eqb, ltb, List, [], ◌∷◌, length, get_or, drop, Ok, Err, Result, sym, ap, ◌∙◌, arith}
+use Rattle.std.proofs.Common.{◌≡◌, ℕ, ◌-◌, ◌*◌, Bool, true, false, cond, eqb, ltb, List, [], ◌∷◌, length, get_or, drop, Ok, Err, Result, sym, ap, ◌∙◌}
 use Rattle.faults.specs.declared.Fault.{Fault}
 use Rattle.faults.specs.declared.Refusal.TheVariants.{PageEnds, UnexpectedKind, FieldOutOfRange}
 use Rattle.records.specs.declared.limits.Limits.{Limits}
@@ -13,13 +13,13 @@ use Rattle.contents.specs.Checks.{header_of, section_bytes, has_answer, step_byt
 
 -- the one way through the tests of a record
 passed : {R : Type 0} (kind short good : Bool) (x r : R) (f g h : Fault) → cond kind (cond short (Err f) (cond good (Ok x) (Err g))) (Err h) ≡ Ok r → x ≡ r
-passed true true good x r f g h e = let z : ◌≡◌ {A = ℕ} 0 1 = cc in absurd (omega arith)
+passed true true good x r f g h e = cc
 passed true false true x r f g h e = cc
-passed true false false x r f g h e = let z : ◌≡◌ {A = ℕ} 0 1 = cc in absurd (omega arith)
-passed false short good x r f g h e = let z : ◌≡◌ {A = ℕ} 0 1 = cc in absurd (omega arith)
+passed true false false x r f g h e = cc
+passed false short good x r f g h e = cc
 
 pub due_is : {R : Type 0} (shape : Shape R) (limits : Limits) (len : ℕ) (bs : List ℕ) (r : R) → Ok r ≡ due_record shape limits len bs → decoded shape bs ≡ r
-due_is shape limits len [] r e = let z : ◌≡◌ {A = ℕ} 0 1 = cc in absurd (omega arith)
+due_is shape limits len [] r e = cc
 due_is shape limits len (b ∷ bs) r e =
     let rest = b ∷ bs in
     let at = len - length rest in

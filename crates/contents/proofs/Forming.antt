@@ -23,8 +23,7 @@ use Rattle.records.specs.Bytes.{Fits, Bytes}
 use Rattle.records.specs.Shapes.{Shape, ShapeLaws, size_of, decoded_run, encoded_run}
 use Rattle.records.specs.Due.{due_run}
 use Rattle.records.specs.Values.{label_fits}
-use Rattle.records.specs.Layout.{header_shape, section_shape, estimate_shape, answer_shape, step_shape, end_shape}
-use Rattle.records.specs.Laws.{section_laws, estimate_laws, answer_laws, step_laws}
+use Rattle.records.specs.Layout.{header_shape, section_shape, estimate_shape, answer_shape, step_shape}
 use Rattle.records.proofs.Passing.{RunStands, length-encoded_run, run_decoded, run_written, run_fits}
 use Rattle.contents.specs.declared.answer.Outcome.{Outcome}
 use Rattle.contents.specs.declared.answer.Outcome.TheVariants.{Found, NoRoute}
@@ -157,7 +156,7 @@ module _ {C L S : Type 0} (c : cost.Ghosts C L S) (laws : PageLaws c) where
   label_read f h g = go (c.told f) refl (laws.kinds.labels f ∙ g)
     where
       go : (o : Option L) → c.told f ≡ o → is_some o ≡ true → LabelRead f
-      go None e k = let z : ◌≡◌ {A = ℕ} 0 1 = cc in absurd (omega arith)
+      go None e k = cc
       go (Some a) e k =
           let range : LabelRange f = record { moves = h; samples = ltb-true f.samples (2 ^ 44) (and_parts (moves_fit c.kind f.moves) (ltb f.samples (2 ^ 44)) g).1 } in
           let seen = ap (λ o. c.shown (unwrap_or o c.ops.zero)) e ∙ laws.labels.back a f range e in

@@ -93,8 +93,8 @@ module _ {C L S : Type 0} (c : cost.Ghosts C L S) where
             → cond a (cond b (Some (page_fault (PageTooShort (needed x)))) inner) (Some (page_fault (EstimateCount (length x.estimates)))) ≡ None
             → (length x.estimates ≡ x.network.stations) × (needed x ≤ room) × (inner ≡ None)
         go true e false f n = (eqb-true _ _ e, ltb-false _ _ f, n)
-        go true e true f n = let z : ◌≡◌ {A = ℕ} 0 1 = cc in absurd (omega arith)
-        go false e b f n = let z : ◌≡◌ {A = ℕ} 0 1 = cc in absurd (omega arith)
+        go true e true f n = cc
+        go false e b f n = cc
 
     module _ (n : ℕ) (after : List ℕ) (size : n ≡ 10 + 12 * length x.network.sections + 21 * length x.estimates + answer_size x.answer + 1) (stands : after ≡ encode c x ++ drop (length (encode c x)) page) where
       encoded_size : n ≡ length (encode c x)

@@ -8,7 +8,7 @@ use Rattle.amounts.specs.declared.cost.Cost as cost
 use Rattle.networks.specs.declared.section.Section.{Section}
 use Rattle.networks.specs.declared.estimates.Pair.{Pair}
 use Rattle.networks.specs.Nets.{Net}
-use Rattle.networks.specs.Ranges.{on_some}
+use Rattle.std.specs.Option.{option_map}
 use Rattle.records.specs.Due.{page_fault}
 use Rattle.contents.specs.declared.answer.Outcome.{Outcome}
 use Rattle.contents.specs.declared.answer.Outcome.TheVariants.{Found, NoRoute}
@@ -19,7 +19,7 @@ use Rattle.contents.specs.Encoding.{form_of, encode}
 
 -- what is put in: a network, estimates, and perhaps an answer with its steps in a lent list
 abbrev pub content_by : {L S : Type 0} → Net S → List (Pair L) → Option (Answer L (Bor (List (Step L)))) → Content L S
-content_by net estimates answer = record { network = net; estimates = estimates; answer = on_some meant_of answer }
+content_by net estimates answer = record { network = net; estimates = estimates; answer = option_map meant_of answer }
 
 -- the bytes of an answer with so many steps, or of none
 abbrev pub answer_size : {L : Type 0} → Option (Meant L) → ℕ

@@ -1,7 +1,7 @@
 //! The answer on a page, read from the page's own bytes.
 ghost use Rattle.std.specs.Prelude.{◌≡◌, ◌+◌, ◌*◌, if◌then◌else◌, Some, None};
 ghost use Rattle.std.specs.List.{slice_get};
-ghost use Rattle.networks.specs.Ranges.{on_some};
+ghost use Rattle.std.specs.Option.{option_map};
 ghost use Rattle.records.specs.Layout.{answer_shape};
 ghost use Rattle.records.specs.Shapes.{decoded};
 ghost use Rattle.contents.specs.Checks.{header_of, answer_bytes, has_answer};
@@ -37,7 +37,7 @@ impl<C: Cost> PageView<'_, C> {
 
     /// The answer on the page, if there is one, without its steps.
     pub fn answer(&self) -> Option<Filed<C::Label>>
-        ensures { result ≡ on_some filed_by (answer_of C.Cost self.now.bytes.now) }
+        ensures { result ≡ option_map filed_by (answer_of C.Cost self.now.bytes.now) }
     {
         let body = self.answer_record()?;
         Some(Filed {

@@ -8,11 +8,10 @@ use crate::numbers::{label_bytes, label_fits, label_of, moves_fit, section_bytes
 use crate::record::Record;
 use amounts::cost::{LabelForm, SectionForm};
 
-// Kept: (a) `state`, `kind` and `outcome` are the page's own bytes, good or bad, which `keeps` judges.
-
 /// The body of an S record.
 #[derive(Clone, Copy)]
 pub struct SectionRecord {
+    // Kept: (a) the page's own byte, 0 or 1 or worse, which `keeps` judges after it is read.
     pub state: u8,
     pub from: u16,
     pub to: u16,
@@ -67,6 +66,7 @@ impl Record<{ SectionRecord::SIZE }> for SectionRecord {
 /// The body of an H record.
 #[derive(Clone, Copy)]
 pub struct HeaderRecord {
+    // Kept: (a) the page's own byte, of any kind, which `keeps` judges after it is read.
     pub kind: u8,
     pub stations: u16,
     pub sections: u16,
@@ -148,36 +148,12 @@ impl Record<{ EstimateRecord::SIZE }> for EstimateRecord {
     const KIND: u8 = 0x45;
 
     fn front(bytes: &[u8]) -> Option<EstimateRecord> {
-        let [
-            _,
-            m3,
-            m2,
-            m1,
-            m0,
-            s5,
-            s4,
-            s3,
-            s2,
-            s1,
-            s0,
-            n3,
-            n2,
-            n1,
-            n0,
-            t5,
-            t4,
-            t3,
-            t2,
-            t1,
-            t0,
-            ..
-        ] = bytes
-        else {
-            return None;
-        };
+        let (_, rest) = bytes.split_first()?;
+        let (forward, rest) = rest.split_first_chunk()?;
+        let (backward, _) = rest.split_first_chunk()?;
         Some(EstimateRecord {
-            forward: label_of([*m3, *m2, *m1, *m0, *s5, *s4, *s3, *s2, *s1, *s0]),
-            backward: label_of([*n3, *n2, *n1, *n0, *t5, *t4, *t3, *t2, *t1, *t0]),
+            forward: label_of(*forward),
+            backward: label_of(*backward),
         })
     }
 
@@ -186,30 +162,11 @@ impl Record<{ EstimateRecord::SIZE }> for EstimateRecord {
     }
 
     fn bytes(&self) -> [u8; EstimateRecord::SIZE] {
+        let kind = Self::KIND;
         let [m3, m2, m1, m0, s5, s4, s3, s2, s1, s0] = label_bytes(self.forward);
         let [n3, n2, n1, n0, t5, t4, t3, t2, t1, t0] = label_bytes(self.backward);
         [
-            Self::KIND,
-            m3,
-            m2,
-            m1,
-            m0,
-            s5,
-            s4,
-            s3,
-            s2,
-            s1,
-            s0,
-            n3,
-            n2,
-            n1,
-            n0,
-            t5,
-            t4,
-            t3,
-            t2,
-            t1,
-            t0,
+            kind, m3, m2, m1, m0, s5, s4, s3, s2, s1, s0, n3, n2, n1, n0, t5, t4, t3, t2, t1, t0,
         ]
     }
 }
@@ -218,6 +175,7 @@ impl Record<{ EstimateRecord::SIZE }> for EstimateRecord {
 #[derive(Clone, Copy)]
 pub struct AnswerRecord {
     pub run: u32,
+    // Kept: (a) the page's own byte, 0 or 1 or worse, which `keeps` judges after it is read.
     pub outcome: u8,
     pub cost: LabelForm,
     pub steps: u16,
@@ -242,30 +200,10 @@ impl Record<{ AnswerRecord::SIZE }> for AnswerRecord {
     const KIND: u8 = 0x41;
 
     fn front(bytes: &[u8]) -> Option<AnswerRecord> {
-        let [
-            _,
-            r3,
-            r2,
-            r1,
-            r0,
-            outcome,
-            m3,
-            m2,
-            m1,
-            m0,
-            s5,
-            s4,
-            s3,
-            s2,
-            s1,
-            s0,
-            n1,
-            n0,
-            t1,
-            t0,
-            ..
-        ] = bytes
-        else {
+        let [_, r3, r2, r1, r0, outcome, rest @ ..] = bytes else {
+            return None;
+        };
+        let [m3, m2, m1, m0, s5, s4, s3, s2, s1, s0, n1, n0, t1, t0, ..] = rest else {
             return None;
         };
         Some(AnswerRecord {
@@ -287,32 +225,14 @@ impl Record<{ AnswerRecord::SIZE }> for AnswerRecord {
     }
 
     fn bytes(&self) -> [u8; AnswerRecord::SIZE] {
+        let kind = Self::KIND;
         let [r3, r2, r1, r0] = self.run.to_be_bytes();
         let [outcome] = self.outcome.to_be_bytes();
         let [m3, m2, m1, m0, s5, s4, s3, s2, s1, s0] = label_bytes(self.cost);
         let [n1, n0] = self.steps.to_be_bytes();
         let [t1, t0] = self.taken.to_be_bytes();
         [
-            Self::KIND,
-            r3,
-            r2,
-            r1,
-            r0,
-            outcome,
-            m3,
-            m2,
-            m1,
-            m0,
-            s5,
-            s4,
-            s3,
-            s2,
-            s1,
-            s0,
-            n1,
-            n0,
-            t1,
-            t0,
+            kind, r3, r2, r1, r0, outcome, m3, m2, m1, m0, s5, s4, s3, s2, s1, s0, n1, n0, t1, t0,
         ]
     }
 }

@@ -1,6 +1,6 @@
 //! Whether a page can hold an answer.
 ghost use Rattle.std.specs.Prelude.{◌≡◌, ◌+◌, ◌*◌, ◌^◌, ◌<◌, length};
-ghost use Rattle.networks.specs.Ranges.{on_some};
+ghost use Rattle.std.specs.Option.{option_map};
 ghost use Rattle.contents.specs.Content.{meant_of};
 ghost use Rattle.contents.specs.Writing.{step_good, nothing_at, meant_good, steps_fault, answer_fault};
 
@@ -74,7 +74,7 @@ pub(crate) fn answer_fault<C: Cost, N: Network<C>>(
     answer: &Option<Told<'_, C::Label>>,
 ) -> Option<Fault>
     requires { at < 2 ^ 32 }
-    ensures { result ≡ answer_fault C.Cost (N.Network.meaning net.now) at (on_some meant_of answer.now) }
+    ensures { result ≡ answer_fault C.Cost (N.Network.meaning net.now) at (option_map meant_of answer.now) }
 {
     let Some(answer) = answer else {
         return None;

@@ -1,6 +1,6 @@
 //! Writing a page.
 ghost use Rattle.std.specs.Prelude.{◌≡◌, ◌+◌, ◌≤◌, length, take, None, Ok, Err};
-ghost use Rattle.networks.specs.Ranges.{on_some};
+ghost use Rattle.std.specs.Option.{option_map};
 ghost use Rattle.records.specs.Bytes.{overlay};
 ghost use Rattle.contents.specs.Again.{Back};
 ghost use Rattle.contents.specs.Content.{meant_of};
@@ -22,7 +22,7 @@ use std::marker::PhantomData;
 
 /// Where an answer at an offset ends with its steps, as far as a machine number goes.
 fn answer_end<L>(at: usize, answer: &Option<Told<'_, L>>) -> usize
-    ensures { result ≡ placed (at + answer_size (on_some meant_of answer.now)) }
+    ensures { result ≡ placed (at + answer_size (option_map meant_of answer.now)) }
 {
     match answer {
         Some(answer) => at
@@ -34,11 +34,11 @@ fn answer_end<L>(at: usize, answer: &Option<Told<'_, L>>) -> usize
 
 /// Puts an answer with its steps, if there is one, on the page from an offset on, and answers where they end.
 fn put_answer<C: Cost>(page: &mut [u8], at: usize, answer: &Option<Told<'_, C::Label>>) -> usize
-    requires room { at + answer_size (on_some meant_of answer.now) ≤ length page.old }
-    requires short { Short (on_some meant_of answer.now) }
-    ensures end { result ≡ at + answer_size (on_some meant_of answer.now) }
-    ensures run { RunFits (on_some meant_of answer.now) }
-    ensures page { page.new ≡ overlay page.old at (answer_encoded C.Cost (on_some meant_of answer.now)) }
+    requires room { at + answer_size (option_map meant_of answer.now) ≤ length page.old }
+    requires short { Short (option_map meant_of answer.now) }
+    ensures end { result ≡ at + answer_size (option_map meant_of answer.now) }
+    ensures run { RunFits (option_map meant_of answer.now) }
+    ensures page { page.new ≡ overlay page.old at (answer_encoded C.Cost (option_map meant_of answer.now)) }
 {
     let Some(answer) = answer else {
         return at;

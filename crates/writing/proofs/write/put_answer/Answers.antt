@@ -1,6 +1,6 @@
 use Rattle.std.proofs.Common.{◌≡◌, Some, None, sym, ap, ◌∙◌, subst, arith}
 use Rattle.std.proofs.lemmas.List.{length-map}
-use Rattle.networks.specs.Ranges.{on_some}
+use Rattle.std.specs.Option.{option_map}
 use Rattle.records.specs.Bytes.{overlay}
 use Rattle.records.specs.Shapes.{encoded}
 use Rattle.records.specs.Layout.{answer_shape}
@@ -12,8 +12,8 @@ use Rattle.writing.proofs.write.put_answer.Goals as goal
 
 pub returns-in_default : goal.returns-in_default
 returns-in_default g c =
-    let o = on_some meant_of c.args.answer.now in
-    let none : o ≡ None = ap (on_some meant_of) c.in_default.is in
+    let o = option_map meant_of c.args.answer.now in
+    let none : o ≡ None = ap (option_map meant_of) c.in_default.is in
     record {
       end = omega (arith, ap answer_size none);
       run = rw none tt;
@@ -22,8 +22,8 @@ returns-in_default g c =
 
 pub put_run-requires : goal.put_run-requires
 put_run-requires g c =
-    let o = on_some meant_of c.args.answer.now in
-    let some : o ≡ Some (meant_of c.in-Some.answer) = ap (on_some meant_of) c.in-Some.is in
+    let o = option_map meant_of c.args.answer.now in
+    let some : o ≡ Some (meant_of c.in-Some.answer) = ap (option_map meant_of) c.in-Some.is in
     let steps = c.in-Some.answer.steps.now in
     record {
       room = omega (arith, ap answer_size some, length-map steps (step_record g.C.Cost));
@@ -32,9 +32,9 @@ put_run-requires g c =
 
 pub returns : goal.returns
 returns g c =
-    let o = on_some meant_of c.args.answer.now in
+    let o = option_map meant_of c.args.answer.now in
     let m = meant_of c.in-Some.answer in
-    let some : o ≡ Some m = ap (on_some meant_of) c.in-Some.is in
+    let some : o ≡ Some m = ap (option_map meant_of) c.in-Some.is in
     let size = ap answer_size some in
     record {
       end = omega arith;
