@@ -1,18 +1,21 @@
 -- What an accepted page holds, whatever the kind it was read for.
 use Rattle.std.proofs.Common.{◌≡◌, ℕ, suc, ◌+◌, ◌*◌, ◌^◌, ◌<◌, ◌≤◌, true, false, cond, ◌&&◌, eqb, ltb, leb, List, [], ◌∷◌, length, get_or, drop, is_ok, Some, None, Ok, Err, Option, Result, sym, refl, ap, ◌∙◌, arith, length-drop, drop-drop}
 use Rattle.std.specs.List.{AllByRecursion}
+use Rattle.std.specs.Option.{unwrap_or}
 use Rattle.std.proofs.ByRecursion.{All-drop, All-map, All-weaker}
 use Rattle.std.proofs.lemmas.List.{length-map}
-use Rattle.std.proofs.lemmas.Bool.{false≢true, and_parts, eqb-true, ltb-true, leb-true, lt-ltb}
+use Rattle.std.proofs.lemmas.Bool.{and_parts, eqb-true, ltb-true, leb-true, lt-ltb}
 use Rattle.faults.specs.declared.Fault.{Fault}
 use Rattle.records.specs.Bytes.{Bytes}
 use Rattle.records.specs.Shapes.{decoded, decoded_run}
-use Rattle.records.specs.Due.{and_then, due_record, due_run}
+use Rattle.std.specs.Result.{result_and}
+use Rattle.records.specs.Due.{due_record, due_run}
 use Rattle.records.specs.Layout.{header_shape, section_shape, estimate_shape, answer_shape, step_shape}
 use Rattle.records.proofs.Passing.{Stands, due_stands, RunStands, run_stands, run_fits, length-decoded_run}
-use Rattle.amounts.specs.Forms.{SectionRange, LabelLaws, OnPage, section_form, label_form}
+use Rattle.amounts.specs.Forms.{SectionRange, LabelLaws, OnPage, label_form}
 use Rattle.amounts.specs.declared.cost.Cost as cost
 use Rattle.amounts.specs.declared.cost.SectionForm.{SectionForm}
+use Rattle.amounts.specs.declared.cost.LabelForm.{LabelForm}
 use Rattle.networks.specs.Nets.{SectionInRange, InRange}
 use Rattle.networks.specs.Given.{PairInRange, GivenInRange}
 use Rattle.records.specs.declared.limits.Limits.{Limits}
@@ -22,8 +25,8 @@ use Rattle.records.specs.declared.kinds.EstimateRecord.{EstimateRecord}
 use Rattle.records.specs.Bytes.{Fits}
 use Rattle.records.specs.Values.{label_fits}
 use Rattle.amounts.specs.Forms.{moves_fit}
-use Rattle.contents.specs.Content.{or_else, section_from, label_from, pair_from, net_of, pairs_of}
-use Rattle.contents.proofs.Forming.{section_laws, estimate_laws, step_laws}
+use Rattle.contents.specs.Content.{section_from, label_from, pair_from, net_of, pairs_of}
+use Rattle.records.specs.Laws.{section_laws, estimate_laws, step_laws}
 use Rattle.contents.specs.Checks.{headed, header_of, section_bytes, estimate_bytes, answer_bytes, has_answer, step_bytes, step_count, limits_for, limits_of, due_end, due_answer, check_page, all_bytes}
 
 -- Bytes ----------------------------------------------------------------------------------------
@@ -43,15 +46,15 @@ bytes_drop n bs h = All-drop (λ b. b < 256) n bs h
 
 pub ok_is : {A : Type 0} (r : Result A Fault) → is_ok r ≡ true → (a : A) × (r ≡ Ok a)
 ok_is (Ok a) e = (a, refl)
-ok_is (Err f) e = absurd (false≢true e)
+ok_is (Err f) e = cc
 
-pub then_first : {A B : Type 0} (r : Result A Fault) (s : Result B Fault) → is_ok (and_then r s) ≡ true → is_ok r ≡ true
+pub then_first : {A B : Type 0} (r : Result A Fault) (s : Result B Fault) → is_ok (result_and r s) ≡ true → is_ok r ≡ true
 then_first (Ok a) s e = refl
-then_first (Err f) s e = absurd (false≢true e)
+then_first (Err f) s e = cc
 
-pub then_second : {A B : Type 0} (r : Result A Fault) (s : Result B Fault) → is_ok (and_then r s) ≡ true → is_ok s ≡ true
+pub then_second : {A B : Type 0} (r : Result A Fault) (s : Result B Fault) → is_ok (result_and r s) ≡ true → is_ok s ≡ true
 then_second (Ok a) s e = e
-then_second (Err f) s e = absurd (false≢true e)
+then_second (Err f) s e = cc
 
 -- The parts of an accepted page ----------------------------------------------------------------
 
@@ -70,10 +73,10 @@ accepted kind bs all ok =
     let sections = due_run section_shape limits len h.sections (section_bytes bs) in
     let estimates = due_run estimate_shape limits len h.stations (estimate_bytes bs) in
     let answer = due_answer limits len (answer_bytes bs) in
-    let ok₁ = then_second first (and_then sections (and_then estimates answer)) ok in
-    let ok₂ = then_second sections (and_then estimates answer) ok₁ in
-    let p = ok_is first (then_first first (and_then sections (and_then estimates answer)) ok) in
-    let q = ok_is sections (then_first sections (and_then estimates answer) ok₁) in
+    let ok₁ = then_second first (result_and sections (result_and estimates answer)) ok in
+    let ok₂ = then_second sections (result_and estimates answer) ok₁ in
+    let p = ok_is first (then_first first (result_and sections (result_and estimates answer)) ok) in
+    let q = ok_is sections (then_first sections (result_and estimates answer) ok₁) in
     let r = ok_is estimates (then_first estimates answer ok₂) in
     let stands = due_stands header_shape (limits_for kind) len bs p.0 p.1 in
     let all₁ = bytes_drop 10 bs all in
@@ -87,10 +90,10 @@ accepted kind bs all ok =
 -- what the answer of the checks tells, with a header or without
 pub headed_ok : {A : Type 0} (a x : A) (r : Result (Unit {0}) Fault) → Ok a ≡ headed x r → (a ≡ x) × (r ≡ Ok tt)
 headed_ok a x (Ok u) e = (cc, refl)
-headed_ok a x (Err f) e = let z : ◌≡◌ {A = ℕ} 0 1 = cc in absurd (omega arith)
+headed_ok a x (Err f) e = cc
 
 pub headed_err : {A : Type 0} (x : A) (r : Result (Unit {0}) Fault) (f : Fault) → Err f ≡ headed x r → Err f ≡ r
-headed_err x (Ok u) f e = let z : ◌≡◌ {A = ℕ} 0 1 = cc in absurd (omega arith)
+headed_err x (Ok u) f e = cc
 headed_err x (Err g) f e = cc
 
 -- an accepted page is of the kind that it was read for
@@ -126,9 +129,9 @@ answered limits len rest all there ok =
     let first = due_record answer_shape limits len rest in
     let steps = due_run step_shape limits len (step_count rest) (step_bytes rest) in
     let ends = due_end limits len (drop (13 * step_count rest) (step_bytes rest)) in
-    let ok₁ : is_ok (and_then first (and_then steps ends)) ≡ true = ap (λ b. is_ok (cond b (and_then first (and_then steps ends)) (due_end limits len rest))) (sym there) ∙ ok in
-    let p = ok_is first (then_first first (and_then steps ends) ok₁) in
-    let q = ok_is steps (then_first steps ends (then_second first (and_then steps ends) ok₁)) in
+    let ok₁ : is_ok (result_and first (result_and steps ends)) ≡ true = ap (λ b. is_ok (cond b (result_and first (result_and steps ends)) (due_end limits len rest))) (sym there) ∙ ok in
+    let p = ok_is first (then_first first (result_and steps ends) ok₁) in
+    let q = ok_is steps (then_first steps ends (then_second first (result_and steps ends) ok₁)) in
     let stands = due_stands answer_shape limits len rest p.0 p.1 in
     record {
       answer = record { fits = stands.fits; kinded = stands.kinded; is = refl; good = stands.good };
@@ -165,7 +168,7 @@ module _ {C L S : Type 0} (c : cost.Ghosts C L S) (kind : ℕ) (bs : List ℕ) (
       record {
         from = ltb-true r.from limits.stations q.0;
         to = ltb-true r.to limits.stations t.0;
-        amount = kept (section_form r.moves r.samples) (record { moves = h.1.1.1.1.0; samples = h.1.1.1.1.1.0 });
+        amount = kept r.amount (record { moves = h.1.1.1.1.0; samples = h.1.1.1.1.1.0 });
       }
 
   pub net_range : ((f : SectionForm) → SectionRange f → SectionRange (c.parts (c.made f))) → InRange c.parts (net_of c bs)
@@ -190,17 +193,17 @@ module _ {C L S : Type 0} (c : cost.Ghosts C L S) (kind : ℕ) (bs : List ℕ) (
       }
 
   module _ (laws : LabelLaws c.ops c.shown c.told) where
-    label_told : (o : Option L) (m s : ℕ) → c.told (label_form m s) ≡ o → m < 2 ^ 32 → s < 2 ^ 44 → OnPage c.shown (or_else c.ops.zero o)
-    label_told None m s e h k = (label_form 0 0, laws.zero_shown)
-    label_told (Some x) m s e h k = (label_form m s, laws.back x (label_form m s) (record { moves = h; samples = k }) e)
+    label_told : (o : Option L) (f : LabelForm) → c.told f ≡ o → f.moves < 2 ^ 32 → f.samples < 2 ^ 44 → OnPage c.shown (unwrap_or o c.ops.zero)
+    label_told None f e h k = (label_form 0 0, laws.zero_shown)
+    label_told (Some x) f e h k = (f, laws.back x f (record { moves = h; samples = k }) e)
 
-    label_range : (k m s : ℕ) → label_fits k m s ≡ true → m < 2 ^ 32 → OnPage c.shown (label_from c m s)
-    label_range k m s e h = label_told (c.told (label_form m s)) m s refl h (ltb-true s (2 ^ 44) (and_parts (moves_fit k m) (ltb s (2 ^ 44)) e).1)
+    label_range : (k : ℕ) (f : LabelForm) → label_fits k f ≡ true → f.moves < 2 ^ 32 → OnPage c.shown (label_from c f)
+    label_range k f e h = label_told (c.told f) f refl h (ltb-true f.samples (2 ^ 44) (and_parts (moves_fit k f.moves) (ltb f.samples (2 ^ 44)) e).1)
 
     pair_range : (limits : Limits) (r : EstimateRecord) → (estimate_shape.good limits r ≡ true) × Fits estimate_shape.widths (estimate_shape.fields r) → PairInRange c.shown (pair_from c r)
     pair_range limits r h =
-        let p = and_parts (label_fits limits.kind r.forward_moves r.forward_samples) (label_fits limits.kind r.backward_moves r.backward_samples) h.0 in
-        record { forward = label_range limits.kind _ _ p.0 h.1.0; backward = label_range limits.kind _ _ p.1 h.1.1.1.0 }
+        let p = and_parts (label_fits limits.kind r.forward) (label_fits limits.kind r.backward) h.0 in
+        record { forward = label_range limits.kind _ p.0 h.1.0; backward = label_range limits.kind _ p.1 h.1.1.1.0 }
 
     pub pairs_range : GivenInRange c.shown (pairs_of c bs)
     pairs_range =

@@ -1,25 +1,25 @@
 -- The answer that an accepted page tells.
-use Rattle.std.proofs.Common.{◌≡◌, ℕ, ◌+◌, ◌*◌, Bool, true, false, cond, List, length, drop, Some, None, Option, sym, refl, ap, ◌∙◌, arith, drop-drop}
+use Rattle.std.proofs.Common.{◌≡◌, ℕ, ◌+◌, ◌*◌, Bool, true, false, cond, List, length, drop, Some, None, Option, sym, refl, ap, ◌∙◌, drop-drop}
 use Rattle.std.specs.List.{slice_get}
 use Rattle.std.proofs.lemmas.List.{length-map}
 use Rattle.amounts.specs.declared.cost.Cost as cost
-use Rattle.networks.specs.Ranges.{on_some}
+use Rattle.std.specs.Option.{option_map}
 use Rattle.records.specs.declared.kinds.AnswerRecord.{AnswerRecord}
 use Rattle.records.specs.declared.kinds.StepRecord.{StepRecord}
 use Rattle.records.specs.Layout.{answer_shape, step_shape}
 use Rattle.records.specs.Shapes.{decoded, decoded_run}
 use Rattle.records.proofs.Passing.{length-decoded_run}
-use Rattle.contents.specs.declared.answer.Filed.{Filed}
+use Rattle.contents.specs.declared.answer.Answer.{Answer}
 use Rattle.contents.specs.Checks.{header_of, answer_bytes, has_answer, step_bytes}
 use Rattle.contents.proofs.Accepting.{answer_place}
 use Rattle.contents.specs.Content.{Meant, filed_by, meant_by, step_from, net_of, answer_of}
 
 some_told : {X : Type 0} (b : Bool) (x a : X) → Some a ≡ cond b (Some x) None → (b ≡ true) × (a ≡ x)
 some_told true x a e = (refl, cc)
-some_told false x a e = let z : ◌≡◌ {A = ℕ} 0 1 = cc in absurd (omega arith)
+some_told false x a e = cc
 
 none_told : {X : Type 0} (b : Bool) (x : X) → None ≡ cond b (Some x) None → b ≡ false
-none_told true x e = let z : ◌≡◌ {A = ℕ} 0 1 = cc in absurd (omega arith)
+none_told true x e = cc
 none_told false x e = refl
 
 -- the record of an answer, if there is one
@@ -57,10 +57,10 @@ module _ {C L S : Type 0} (c : cost.Ghosts C L S) (bs : List ℕ) where
       length-map run (step_from c (net_of c bs).sections) ∙ length-decoded_run step_shape a.steps (step_bytes (answer_bytes bs))
 
 -- the answer behind what a view tells of it
-pub filed_some : {L : Type 0} (o : Option (Meant L)) (f : Filed L) → Some f ≡ on_some filed_by o → (m : Meant L) × (o ≡ Some m) × (f ≡ filed_by m)
-filed_some None f e = let z : ◌≡◌ {A = ℕ} 0 1 = cc in absurd (omega arith)
+pub filed_some : {L : Type 0} (o : Option (Meant L)) (f : Answer L ℕ) → Some f ≡ option_map filed_by o → (m : Meant L) × (o ≡ Some m) × (f ≡ filed_by m)
+filed_some None f e = cc
 filed_some (Some m) f e = (m, refl, cc)
 
-pub filed_none : {L : Type 0} (o : Option (Meant L)) → None ≡ on_some filed_by o → o ≡ None
+pub filed_none : {L : Type 0} (o : Option (Meant L)) → None ≡ option_map filed_by o → o ≡ None
 filed_none None e = refl
-filed_none (Some m) e = let z : ◌≡◌ {A = ℕ} 0 1 = cc in absurd (omega arith)
+filed_none (Some m) e = cc

@@ -1,7 +1,7 @@
 -- The records of a page, to what they mean and back.
-use Rattle.std.proofs.Common.{◌≡◌, ℕ, zero, suc, ◌*◌, ◌^◌, ◌<◌, ◌≤◌, Bool, true, false, cond, ◌&&◌, ◌||◌, eqb, ltb, leb, List, [], ◌∷◌, ◌++◌, map, length, drop, Some, None, Ok, Option, sym, refl, ap, ◌∙◌, ap₂, arith, lit<, lit≤}
+use Rattle.std.proofs.Common.{◌≡◌, ℕ, zero, suc, ◌*◌, ◌^◌, ◌<◌, ◌≤◌, Bool, true, false, cond, ◌&&◌, ◌||◌, eqb, ltb, leb, List, [], ◌∷◌, ◌++◌, map, length, drop, Some, None, Ok, Option, sym, refl, ap, ◌∙◌, ap₂, arith, lit≤}
 use Rattle.std.specs.List.{AllByRecursion, slice_get}
-use Rattle.std.specs.Option.{is_some}
+use Rattle.std.specs.Option.{is_some, unwrap_or}
 use Rattle.std.proofs.lemmas.List.{length-map, drop_at, take-append-drop, nil_from_length}
 use Rattle.std.proofs.ByRecursion.{All-weaker, All-map}
 use Rattle.std.proofs.lemmas.Bool.{and_parts, and_from, eq-eqb, eqb-true, lt-ltb, ltb-true, le-leb, leb-true}
@@ -23,34 +23,14 @@ use Rattle.records.specs.Bytes.{Fits, Bytes}
 use Rattle.records.specs.Shapes.{Shape, ShapeLaws, size_of, decoded_run, encoded_run}
 use Rattle.records.specs.Due.{due_run}
 use Rattle.records.specs.Values.{label_fits}
-use Rattle.records.specs.Layout.{header_shape, section_shape, estimate_shape, answer_shape, step_shape, end_shape}
-use Rattle.records.specs.Fields.{placed_all}
+use Rattle.records.specs.Layout.{header_shape, section_shape, estimate_shape, answer_shape, step_shape}
 use Rattle.records.proofs.Passing.{RunStands, length-encoded_run, run_decoded, run_written, run_fits}
 use Rattle.contents.specs.declared.answer.Outcome.{Outcome}
 use Rattle.contents.specs.declared.answer.Outcome.TheVariants.{Found, NoRoute}
 use Rattle.contents.specs.declared.answer.Step.{Step}
 use Rattle.contents.specs.Checks.{limits_of, limits_for}
-use Rattle.contents.specs.Content.{Meant, from_of, to_of, outcome_by, or_else, section_from, label_from, pair_from, step_from, meant_by}
+use Rattle.contents.specs.Content.{Meant, from_of, to_of, outcome_by, section_from, label_from, pair_from, step_from, meant_by}
 use Rattle.contents.specs.Encoding.{outcome_number, section_record, form_of, estimate_record, step_record, answer_record, header_record, StepValid, NothingAt, MeantValid, PageLaws}
-
--- Each record is its fields.
-pub header_laws : ShapeLaws header_shape
-header_laws = record { byte = lit< tt; short = lit≤ tt; of_fields = λ r. refl; fields_of = placed_all 5 }
-
-pub section_laws : ShapeLaws section_shape
-section_laws = record { byte = lit< tt; short = lit≤ tt; of_fields = λ r. refl; fields_of = placed_all 5 }
-
-pub estimate_laws : ShapeLaws estimate_shape
-estimate_laws = record { byte = lit< tt; short = lit≤ tt; of_fields = λ r. refl; fields_of = placed_all 4 }
-
-pub answer_laws : ShapeLaws answer_shape
-answer_laws = record { byte = lit< tt; short = lit≤ tt; of_fields = λ r. refl; fields_of = placed_all 6 }
-
-pub step_laws : ShapeLaws step_shape
-step_laws = record { byte = lit< tt; short = lit≤ tt; of_fields = λ r. refl; fields_of = placed_all 3 }
-
-pub end_laws : ShapeLaws end_shape
-end_laws = record { byte = lit< tt; short = lit≤ tt; of_fields = λ r. refl; fields_of = placed_all 0 }
 
 -- What is valid turns into a good record and back, and a good record into what is valid and back.
 pub record Turns {R M : Type 0} (shape : Shape R) (limits : Limits) (to : M → R) (from : R → M) (V : M → Type 0) : Type 0 where
@@ -147,13 +127,13 @@ module _ {C L S : Type 0} (c : cost.Ghosts C L S) (laws : PageLaws c) where
   -- Amounts ------------------------------------------------------------------------------------
 
   -- an amount as it is written
-  pub record LabelWritten (m s : ℕ) (a : L) : Type 0 where
-    pub moves : m < 256 ^ 4
-    pub samples : s < 256 ^ 6
-    pub good : label_fits c.KIND m s ≡ true
-    pub read : label_from c m s ≡ a
+  pub record LabelWritten (f : LabelForm) (a : L) : Type 0 where
+    pub moves : f.moves < 256 ^ 4
+    pub samples : f.samples < 256 ^ 6
+    pub good : label_fits c.KIND f ≡ true
+    pub read : label_from c f ≡ a
 
-  label_by : (a : L) (f : LabelForm) → c.shown a ≡ Some f → LabelWritten f.moves f.samples a
+  label_by : (a : L) (f : LabelForm) → c.shown a ≡ Some f → LabelWritten f a
   label_by a f e =
       let range = laws.labels.range a f e in
       let told = laws.labels.again a f e in
@@ -161,30 +141,26 @@ module _ {C L S : Type 0} (c : cost.Ghosts C L S) (laws : PageLaws c) where
         moves = range.moves;
         samples = omega arith;
         good = sym (laws.kinds.labels f) ∙ ap is_some told;
-        read = ap (or_else c.ops.zero) told;
+        read = ap (λ o. unwrap_or o c.ops.zero) told;
       }
 
-  pub label_written : (a : L) → OnPage c.shown a → LabelWritten (form_of c a).moves (form_of c a).samples a
+  pub label_written : (a : L) → OnPage c.shown a → LabelWritten (form_of c a) a
   label_written a (f, e) = rw e (label_by a f e)
 
   -- an amount as it is read
-  pub record LabelRead (m s : ℕ) : Type 0 where
-    pub stands : OnPage c.shown (label_from c m s)
-    pub form : form_of c (label_from c m s) ≡ label_form m s
+  pub record LabelRead (f : LabelForm) : Type 0 where
+    pub stands : OnPage c.shown (label_from c f)
+    pub form : form_of c (label_from c f) ≡ f
 
-  pub label_read : (m s : ℕ) → m < 256 ^ 4 → label_fits c.KIND m s ≡ true → LabelRead m s
-  label_read m s h g = go (c.told form) refl (laws.kinds.labels form ∙ g)
+  pub label_read : (f : LabelForm) → f.moves < 256 ^ 4 → label_fits c.KIND f ≡ true → LabelRead f
+  label_read f h g = go (c.told f) refl (laws.kinds.labels f ∙ g)
     where
-      form : LabelForm
-      form = label_form m s
-
-      go : (o : Option L) → c.told form ≡ o → is_some o ≡ true → LabelRead m s
-      go None e k = let z : ◌≡◌ {A = ℕ} 0 1 = cc in absurd (omega arith)
+      go : (o : Option L) → c.told f ≡ o → is_some o ≡ true → LabelRead f
+      go None e k = cc
       go (Some a) e k =
-          let range : LabelRange form = record { moves = h; samples = ltb-true s (2 ^ 44) (and_parts (moves_fit c.KIND m) (ltb s (2 ^ 44)) g).1 } in
-          let shown = laws.labels.back a form range e in
-          let seen = ap (λ o. c.shown (or_else c.ops.zero o)) e ∙ shown in
-          record { stands = (form, seen); form = ap (or_else (label_form 0 0)) seen }
+          let range : LabelRange f = record { moves = h; samples = ltb-true f.samples (2 ^ 44) (and_parts (moves_fit c.KIND f.moves) (ltb f.samples (2 ^ 44)) g).1 } in
+          let seen = ap (λ o. c.shown (unwrap_or o c.ops.zero)) e ∙ laws.labels.back a f range e in
+          record { stands = (f, seen); form = ap (λ o. unwrap_or o (label_form 0 0)) seen }
 
   -- Sections -----------------------------------------------------------------------------------
 
@@ -195,13 +171,13 @@ module _ {C L S : Type 0} (c : cost.Ghosts C L S) (laws : PageLaws c) where
       sym (laws.kinds.sections f) ∙ ap (λ a. same_form (c.parts a) f) (laws.sections.whole s)
       ∙ ap₂ (λ x y. x && y) (eq-eqb f.moves f.moves refl) (eq-eqb f.samples f.samples refl)
 
-  form_made : (m s : ℕ) → moves_fit c.KIND m ≡ true → c.parts (c.made (section_form m s)) ≡ section_form m s
-  form_made m s g =
-      let f : SectionForm = c.parts (c.made (section_form m s)) in
-      let p = and_parts (eqb f.moves m) (eqb f.samples s) (laws.kinds.sections (section_form m s) ∙ g) in
-      ap₂ section_form (eqb-true f.moves m p.0) (eqb-true f.samples s p.1)
+  form_made : (f : SectionForm) → moves_fit c.KIND f.moves ≡ true → c.parts (c.made f) ≡ f
+  form_made f g =
+      let made : SectionForm = c.parts (c.made f) in
+      let p = and_parts (eqb made.moves f.moves) (eqb made.samples f.samples) (laws.kinds.sections f ∙ g) in
+      ap₂ section_form (eqb-true made.moves f.moves p.0) (eqb-true made.samples f.samples p.1)
 
-  section_good : (h : HeaderRecord) (r : SectionRecord) → section_shape.good (limits_of c.KIND h) r ≡ true → (r.state ≤ 1) × (r.from < h.stations) × (r.to < h.stations) × (moves_fit c.KIND r.moves ≡ true)
+  section_good : (h : HeaderRecord) (r : SectionRecord) → section_shape.good (limits_of c.KIND h) r ≡ true → (r.state ≤ 1) × (r.from < h.stations) × (r.to < h.stations) × (moves_fit c.KIND r.amount.moves ≡ true)
   section_good h r g =
       let p = and_parts (leb r.state 1) _ g in
       let q = and_parts (ltb r.from h.stations) _ p.1 in
@@ -216,10 +192,10 @@ module _ {C L S : Type 0} (c : cost.Ghosts C L S) (laws : PageLaws c) where
         there = λ s v. ap₂ (λ a b. record { from = s.from; to = s.to; amount = a; shut = b }) (laws.sections.whole s.amount) (flag_number s.shut);
         back = λ r f g.
             let p = section_good h r g in
-            ap₂ (λ n form. record { state = n; from = r.from; to = r.to; moves = form.moves; samples = form.samples }) (number_flag r.state p.0) (form_made r.moves r.samples p.3);
+            ap₂ (λ n form. record { state = n; from = r.from; to = r.to; amount = form }) (number_flag r.state p.0) (form_made r.amount p.3);
         valid = λ r f g.
             let p = section_good h r g in
-            record { from = p.1; to = p.2; amount = laws.sections.range_kept (section_form r.moves r.samples) (record { moves = f.1.1.1.0; samples = f.1.1.1.1.0 }) };
+            record { from = p.1; to = p.2; amount = laws.sections.range_kept r.amount (record { moves = f.1.1.1.0; samples = f.1.1.1.1.0 }) };
       }
 
   -- Estimates ----------------------------------------------------------------------------------
@@ -235,17 +211,17 @@ module _ {C L S : Type 0} (c : cost.Ghosts C L S) (laws : PageLaws c) where
         there = λ p v. ap₂ (λ a b. record { forward = a; backward = b }) (label_written p.forward v.forward).read (label_written p.backward v.backward).read;
         back = λ r f g.
             let p = estimate_read h r f g in
-            ap₂ (λ a b. record { forward_moves = a.moves; forward_samples = a.samples; backward_moves = b.moves; backward_samples = b.samples }) p.0.form p.1.form;
+            ap₂ (λ a b. record { forward = a; backward = b }) p.0.form p.1.form;
         valid = λ r f g.
             let p = estimate_read h r f g in
             record { forward = p.0.stands; backward = p.1.stands };
       }
     where
       estimate_read : (h : HeaderRecord) (r : EstimateRecord) → Fits estimate_shape.widths (estimate_shape.fields r) → estimate_shape.good (limits_of c.KIND h) r ≡ true
-          → LabelRead r.forward_moves r.forward_samples × LabelRead r.backward_moves r.backward_samples
+          → LabelRead r.forward × LabelRead r.backward
       estimate_read h r f g =
-          let p = and_parts (label_fits c.KIND r.forward_moves r.forward_samples) _ g in
-          (label_read _ _ f.0 p.0, label_read _ _ f.1.1.0 p.1)
+          let p = and_parts (label_fits c.KIND r.forward) _ g in
+          (label_read _ f.0 p.0, label_read _ f.1.1.0 p.1)
 
   -- Steps --------------------------------------------------------------------------------------
 
@@ -260,20 +236,20 @@ module _ {C L S : Type 0} (c : cost.Ghosts C L S) (laws : PageLaws c) where
             let t = v.there in
             let p : from_of (slice_get sections s.section) ≡ s.from = ap from_of t ∙ sym v.from in
             let q : to_of (slice_get sections s.section) ≡ s.to = ap to_of t ∙ sym v.to in
-            ap₂ (λ from to. record { section = s.section; from = from; to = to; so_far = label_from c (form_of c s.so_far).moves (form_of c s.so_far).samples }) p q
+            ap₂ (λ from to. record { section = s.section; from = from; to = to; so_far = label_from c (form_of c s.so_far) }) p q
             ∙ ap (λ a. record { section = s.section; from = s.from; to = s.to; so_far = a }) (label_written s.so_far v.cost).read;
         back = λ r f g.
-            ap (λ a. record { section = r.section; moves = a.moves; samples = a.samples }) (step_read r f g).1.form;
+            ap (λ a. record { section = r.section; so_far = a }) (step_read r f g).1.form;
         valid = λ r f g.
             let p = step_read r f g in
             let s = nth_there sections r.section (omega arith) in
             record { section = s.0; there = s.1; from = ap from_of s.1; to = ap to_of s.1; cost = p.1.stands };
       }
     where
-      step_read : (r : StepRecord) → Fits step_shape.widths (step_shape.fields r) → step_shape.good (limits_of c.KIND h) r ≡ true → (r.section < h.sections) × LabelRead r.moves r.samples
+      step_read : (r : StepRecord) → Fits step_shape.widths (step_shape.fields r) → step_shape.good (limits_of c.KIND h) r ≡ true → (r.section < h.sections) × LabelRead r.so_far
       step_read r f g =
           let p = and_parts (ltb r.section h.sections) _ g in
-          (ltb-true _ _ p.0, label_read _ _ f.1.0 p.1)
+          (ltb-true _ _ p.0, label_read _ f.1.0 p.1)
 
   -- The header ---------------------------------------------------------------------------------
 
@@ -301,16 +277,16 @@ module _ {C L S : Type 0} (c : cost.Ghosts C L S) (laws : PageLaws c) where
   nothing_good Found a ss n = refl
   nothing_good NoRoute a ss (e, k) = rw (e, k, laws.labels.zero_shown)
 
-  nothing_read : (n m s k : ℕ) (ss : List (Step L)) → length ss ≡ k → (eqb n 0 || (eqb m 0 && (eqb s 0 && eqb k 0))) ≡ true → NothingAt c (outcome_by n) (label_from c m s) ss
-  nothing_read n m s k ss e g = go (eqb n 0) g
+  nothing_read : (n k : ℕ) (f : LabelForm) (ss : List (Step L)) → length ss ≡ k → (eqb n 0 || (eqb f.moves 0 && (eqb f.samples 0 && eqb k 0))) ≡ true → NothingAt c (outcome_by n) (label_from c f) ss
+  nothing_read n k f ss e g = go (eqb n 0) g
     where
-      go : (b : Bool) → (b || (eqb m 0 && (eqb s 0 && eqb k 0))) ≡ true → NothingAt c (cond b Found NoRoute) (label_from c m s) ss
+      go : (b : Bool) → (b || (eqb f.moves 0 && (eqb f.samples 0 && eqb k 0))) ≡ true → NothingAt c (cond b Found NoRoute) (label_from c f) ss
       go true g = tt
       go false g =
-          let p = and_parts (eqb m 0) _ g in
-          let q = and_parts (eqb s 0) _ p.1 in
+          let p = and_parts (eqb f.moves 0) _ g in
+          let q = and_parts (eqb f.samples 0) _ p.1 in
           let told = (label_by c.ops.zero (label_form 0 0) laws.labels.zero_shown).read in
-          (ap₂ (label_from c) (eqb-true m 0 p.0) (eqb-true s 0 q.0) ∙ told, nil_from_length ss (e ∙ eqb-true k 0 q.1))
+          (ap (label_from c) (ap₂ label_form (eqb-true f.moves 0 p.0) (eqb-true f.samples 0 q.0)) ∙ told, nil_from_length ss (e ∙ eqb-true k 0 q.1))
 
   -- an answer as it is written, without its steps
   pub answer_fits : (net : Net S) (m : Meant L) → net.stations ≤ 4096 → MeantValid c net m → Fits answer_shape.widths (answer_shape.fields (answer_record c m))
@@ -330,22 +306,22 @@ module _ {C L S : Type 0} (c : cost.Ghosts C L S) (laws : PageLaws c) where
   -- an answer as it is read
   module _ (h : HeaderRecord) (a : AnswerRecord) (fits : Fits answer_shape.widths (answer_shape.fields a)) (good : answer_shape.good (limits_of c.KIND h) a ≡ true) where
     abbrev Nothing : Bool
-    Nothing = eqb a.outcome 0 || (eqb a.moves 0 && (eqb a.samples 0 && eqb a.steps 0))
+    Nothing = eqb a.outcome 0 || (eqb a.cost.moves 0 && (eqb a.cost.samples 0 && eqb a.steps 0))
 
-    answer_read : (a.outcome ≤ 1) × LabelRead a.moves a.samples × (a.steps ≤ 4095) × (a.taken < h.stations) × (Nothing ≡ true)
+    answer_read : (a.outcome ≤ 1) × LabelRead a.cost × (a.steps ≤ 4095) × (a.taken < h.stations) × (Nothing ≡ true)
     answer_read =
         let p = and_parts (leb a.outcome 1) _ good in
-        let q = and_parts (label_fits c.KIND a.moves a.samples) _ p.1 in
+        let q = and_parts (label_fits c.KIND a.cost) _ p.1 in
         let s = and_parts (leb a.steps 4095) _ q.1 in
         let t = and_parts (ltb a.taken h.stations) _ s.1 in
-        (leb-true _ _ p.0, label_read _ _ fits.1.1.0 q.0, leb-true _ _ s.0, ltb-true _ _ t.0, t.1)
+        (leb-true _ _ p.0, label_read _ fits.1.1.0 q.0, leb-true _ _ s.0, ltb-true _ _ t.0, t.1)
 
     module _ (steps : List StepRecord) (count : length steps ≡ a.steps) where
       pub answer_back : (sections : List (Section S)) → answer_record c (meant_by c sections a steps) ≡ a
       answer_back sections =
           let r = answer_read in
-          ap₂ (λ o f. record { run = a.run; outcome = o; moves = f.moves; samples = f.samples; steps = length (map (step_from c sections) steps); taken = a.taken }) (number_outcome a.outcome r.0) r.1.form
-          ∙ ap (λ n. record { run = a.run; outcome = a.outcome; moves = a.moves; samples = a.samples; steps = n; taken = a.taken }) (length-map steps (step_from c sections) ∙ count)
+          ap₂ (λ o f. record { run = a.run; outcome = o; cost = f; steps = length (map (step_from c sections) steps); taken = a.taken }) (number_outcome a.outcome r.0) r.1.form
+          ∙ ap (λ n. record { run = a.run; outcome = a.outcome; cost = a.cost; steps = n; taken = a.taken }) (length-map steps (step_from c sections) ∙ count)
 
       pub answer_valid : (net : Net S) → net.stations ≡ h.stations → AllByRecursion (StepValid c net.sections) (map (step_from c net.sections) steps) → MeantValid c net (meant_by c net.sections a steps)
       answer_valid net e each =
@@ -356,6 +332,6 @@ module _ {C L S : Type 0} (c : cost.Ghosts C L S) (laws : PageLaws c) where
             cost = r.1.stands;
             few = omega arith;
             taken = omega arith;
-            nothing = nothing_read a.outcome a.moves a.samples a.steps (map (step_from c net.sections) steps) n r.4;
+            nothing = nothing_read a.outcome a.steps a.cost (map (step_from c net.sections) steps) n r.4;
             each = each;
           }

@@ -24,7 +24,7 @@ use Rattle.contents.specs.Writing.{ends_same, step_good, nothing_at, meant_good,
 
 none_left : {A : Type 0} (b : Bool) (o : Option A) (a : A) → cond b o (Some a) ≡ None → (b ≡ true) × (o ≡ None)
 none_left true o a e = (refl, e)
-none_left false o a e = let z : ◌≡◌ {A = ℕ} 0 1 = cc in absurd (omega arith)
+none_left false o a e = cc
 
 module _ {C L S : Type 0} (c : cost.Ghosts C L S) (net : Net S) where
   -- The first step that a page cannot hold ----------------------------------------------------
@@ -57,14 +57,14 @@ module _ {C L S : Type 0} (c : cost.Ghosts C L S) (net : Net S) where
   on_page a e = go (c.shown a) refl e
     where
       go : (o : Option LabelForm) → c.shown a ≡ o → is_some o ≡ true → OnPage c.shown a
-      go None e k = absurd (false≢true k)
+      go None e k = cc
       go (Some f) e k = (f, e)
 
   step_valid : (s : Step L) → step_good c net s ≡ true → StepValid c net.sections s
   step_valid s e = go (slice_get net.sections s.section) refl e
     where
       go : (o : Option (Section S)) → slice_get net.sections s.section ≡ o → (ends_same c o s && is_some (c.shown s.so_far)) ≡ true → StepValid c net.sections s
-      go None there k = absurd (false≢true k)
+      go None there k = cc
       go (Some x) there k =
           let p = and_parts (eqb s.from x.from && eqb s.to x.to) (is_some (c.shown s.so_far)) k in
           let q = and_parts (eqb s.from x.from) (eqb s.to x.to) p.0 in

@@ -1,12 +1,12 @@
 -- One write after another.
-use Rattle.std.proofs.Common.{◌≡◌, ℕ, ◌+◌, ◌-◌, ◌*◌, ◌<◌, ◌≤◌, List, [], ◌∷◌, ◌++◌, length, get_or, take, drop, replicate, Some, sym, ap, ◌∙◌, add-zero, add_assoc, mul-le-mul_left, zero-add, arith}
+use Rattle.std.proofs.Common.{◌≡◌, ℕ, ◌+◌, ◌*◌, ◌<◌, ◌≤◌, List, [], ◌∷◌, ◌++◌, length, get_or, take, drop, Some, sym, ap, ◌∙◌, add-zero, add_assoc, mul-le-mul_left, zero-add, arith}
 use borrow.Rule.Slice.PartMut.{put_mid}
 use Rattle.std.specs.List.{slice_get}
 use Rattle.std.proofs.lemmas.List.{take-append-drop, append_assoc, append-nil, length-append, drop-drop, take_at, drop_at, length-take-le, take_more}
 use Rattle.std.proofs.lemmas.Option.{slice_get-get_or}
 use Rattle.records.specs.Bytes.{overlay}
 use Rattle.records.specs.Shapes.{Shape, ShapeLaws, size_of, encoded, encoded_run}
-use Rattle.records.proofs.Passing.{length-encoded, length-encoded_run}
+use Rattle.records.proofs.Passing.{length-encoded_run}
 
 -- a write to a part of the page
 pub overlay_part : (page : List ℕ) (at k : ℕ) (part bs : List ℕ) → part ≡ bs → k ≡ length bs → put_mid at k page part ≡ overlay page at bs
@@ -55,12 +55,6 @@ take_nth xs i x h e =
     take_more xs i x h ∙ ap (λ y. take i xs ++ (y ∷ [])) same
 
 module _ {R : Type 0} (shape : Shape R) (laws : ShapeLaws shape) where
-  -- the front of what is padded is the record
-  pub padded_front : (r : R) (size : ℕ) (padded : List ℕ) → padded ≡ encoded shape r ++ replicate (21 - size_of shape) 0 → size ≡ size_of shape → take size padded ≡ encoded shape r
-  padded_front r size padded e n =
-      let l = length-encoded shape laws r in
-      ap (take size) e ∙ take_at (encoded shape r) (replicate (21 - size_of shape) 0) size (omega arith)
-
   run_push : (rs : List R) (r : R) → encoded_run shape (rs ++ (r ∷ [])) ≡ encoded_run shape rs ++ encoded shape r
   run_push [] r = append-nil (encoded shape r)
   run_push (q ∷ rs) r = ap (λ l. encoded shape q ++ l) (run_push rs r) ∙ sym (append_assoc (encoded shape q) (encoded_run shape rs) (encoded shape r))

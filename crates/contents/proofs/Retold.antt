@@ -55,7 +55,7 @@ module _ {C L S : Type 0} (c : cost.Ghosts C L S) (laws : Laws c.ops) (fit : Sec
 
     by_outcome : (x : Outcome) → m.outcome ≡ x → (walked c net x m.cost m.steps ≡ true) ↔ Retraced c net m
     by_outcome Found o = (found o, walked_back)
-    by_outcome NoRoute o = (λ e. absurd (false≢true e), λ t. absurd (let z : ◌≡◌ {A = ℕ} 0 1 = cc (o, t.found) in omega arith))
+    by_outcome NoRoute o = (λ e. cc, λ t. absurd (let z : ◌≡◌ {A = ℕ} 0 1 = cc (o, t.found) in omega arith))
 
   pub retold : (o : Option (Meant L)) → ((m : Meant L) → o ≡ Some m → Ends c laws net small m.cost m.steps) → length (steps_in o) ≤ 2 ^ 20 → (retraced c net o ≡ true) ↔ RetracedIn c net o
   retold None ends few = (λ e. false≢true e, λ z. absurd z)
@@ -69,7 +69,7 @@ module _ {C L S : Type 0} (c : cost.Ghosts C L S) (laws : Laws c.ops) (fit : Sec
 
   some_is : (b : Bool) (x m : Meant L) → cond b (Some x) None ≡ Some m → x ≡ m
   some_is true x m e = cc
-  some_is false x m e = let z : ◌≡◌ {A = ℕ} 0 1 = cc in absurd (omega arith)
+  some_is false x m e = cc
 
   ends_in : (m : Meant L) → answer_of c bs ≡ Some m → Ends c laws (net_of c bs) (small c laws fit (net_of c bs) range) m.cost m.steps
   ends_in m e =

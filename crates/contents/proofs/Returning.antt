@@ -1,9 +1,8 @@
 -- A page's content, written and read back, and a page's bytes, read and written again.
-use Rattle.std.proofs.Common.{◌≡◌, ℕ, ◌+◌, ◌*◌, ◌<◌, ◌≤◌, Bool, true, false, cond, ltb, List, [], ◌∷◌, ◌++◌, map, length, drop, Some, None, Ok, Err, Option, Result, sym, refl, ap, ◌∙◌, ap₂, arith, lit<}
+use Rattle.std.proofs.Common.{◌≡◌, ℕ, ◌+◌, ◌*◌, ◌<◌, ◌≤◌, Bool, true, false, cond, ltb, List, [], ◌∷◌, ◌++◌, map, length, drop, Some, None, Ok, Option, sym, refl, ap, ◌∙◌, ap₂, arith, lit<}
 use Rattle.std.proofs.lemmas.List.{length-append, length-map, take-append-drop}
-use Rattle.std.proofs.ByRecursion.{All-append, All-drop}
+use Rattle.std.proofs.ByRecursion.{All-append}
 use Rattle.std.proofs.lemmas.Bool.{lt-ltb, cond-true}
-use Rattle.faults.specs.declared.Fault.{Fault}
 use Rattle.amounts.specs.declared.cost.Cost as cost
 use Rattle.networks.specs.declared.section.Section.{Section}
 use Rattle.networks.specs.Nets.{Net, InRange, SectionInRange}
@@ -12,41 +11,33 @@ use Rattle.records.specs.declared.limits.Limits.{Limits}
 use Rattle.records.specs.declared.kinds.HeaderRecord.{HeaderRecord}
 use Rattle.records.specs.Bytes.{Bytes}
 use Rattle.records.specs.Shapes.{decoded, encoded, decoded_run, encoded_run}
-use Rattle.records.specs.Due.{and_then, due_record, due_run}
+use Rattle.std.specs.Result.{result_and}
+use Rattle.records.specs.Due.{due_record, due_run}
 use Rattle.records.specs.Layout.{header_shape, section_shape, estimate_shape, answer_shape, step_shape, end_shape}
-use Rattle.records.proofs.Passing.{due_stands, length-decoded_run, encoded_all, decoded-encoded, encoded-decoded, decoded_fits, due_written, length-encoded_run, encoded_run_all, run_stands}
+use Rattle.records.proofs.Passing.{both, due_stands, length-decoded_run, encoded_all, decoded-encoded, encoded-decoded, decoded_fits, due_written, length-encoded_run, encoded_run_all, run_stands}
 use Rattle.contents.specs.Checks.{header_of, section_bytes, estimate_bytes, answer_bytes, has_answer, step_bytes, step_count, limits_of, limits_for, due_end, due_answer, check_page}
 use Rattle.contents.specs.Content.{Meant, Content, section_from, pair_from, step_from, net_of, pairs_of, meant_by, content_of}
 use Rattle.contents.specs.Encoding.{section_record, estimate_record, step_record, answer_record, header_record, answer_encoded, encode, StepValid, MeantValid, AnswerValid, Valid, PageLaws}
+use Rattle.contents.proofs.Accepting.{bytes_drop}
 use Rattle.contents.proofs.Checking.{answer_ends, page_answer}
-use Rattle.contents.proofs.Forming.{Turns, header_laws, section_laws, estimate_laws, answer_laws, step_laws, run_passes, run_reads, run_after, run_valid, run_back, section_turns, estimate_turns, step_turns, header_fits, header_good, header_read, answer_fits, answer_good, answer_there, answer_back, answer_valid}
-
--- what was passed on the way to an answer
-never : {A : Type 0} {f : Fault} {a : A} → Err f ≡ Ok a → ⊥
-never e = let z : ◌≡◌ {A = ℕ} 0 1 = cc in omega arith
-
-both : {A B : Type 0} (a : Result A Fault) (b : Result B Fault) (y : B) → and_then a b ≡ Ok y → (x : A) × (a ≡ Ok x) × (b ≡ Ok y)
-both (Ok x) b y e = (x, refl, e)
-both (Err f) b y e = absurd (never e)
+use Rattle.records.specs.Laws.{header_laws, section_laws, estimate_laws, answer_laws, step_laws}
+use Rattle.contents.proofs.Forming.{Turns, run_passes, run_reads, run_after, run_valid, run_back, section_turns, estimate_turns, step_turns, header_fits, header_good, header_read, answer_fits, answer_good, answer_there, answer_back, answer_valid}
 
 bytes_append : (xs ys : List ℕ) → Bytes xs → Bytes ys → Bytes (xs ++ ys)
 bytes_append = All-append (λ b. b < 256)
-
-bytes_drop : (n : ℕ) (bs : List ℕ) → Bytes bs → Bytes (drop n bs)
-bytes_drop = All-drop (λ b. b < 256)
 
 -- the end of a page
 abbrev end : List ℕ
 end = encoded end_shape (record {})
 
 end_back : (limits : Limits) (len : ℕ) (rest : List ℕ) → due_end limits len rest ≡ Ok tt → end ≡ rest
-end_back limits len [] e = absurd (never e)
+end_back limits len [] e = cc
 end_back limits len (b ∷ []) e =
     let p = both (due_record end_shape limits len (b ∷ [])) _ tt e in
     ap (λ n. n ∷ []) (sym (due_stands end_shape limits len (b ∷ []) p.0 p.1).kinded)
 end_back limits len (b ∷ d ∷ bs) e =
     let p = both (due_record end_shape limits len (b ∷ d ∷ bs)) _ tt e in
-    absurd (never (sym (cond-true (ltb 1 (length (b ∷ d ∷ bs))) _ _ (lt-ltb 1 _ (omega arith))) ∙ p.2))
+    cc (sym (cond-true (ltb 1 (length (b ∷ d ∷ bs))) _ _ (lt-ltb 1 _ (omega arith))) ∙ p.2)
 
 module _ {C L S : Type 0} (c : cost.Ghosts C L S) where
   -- the parts of a page, each with what comes after it
@@ -203,7 +194,7 @@ module _ {C L S : Type 0} (c : cost.Ghosts C L S) (laws : PageLaws c) where
     abbrev meant : Meant L
     meant = meant_by c net.sections (decoded answer_shape rest) (decoded_run step_shape (step_count rest) steps_at)
 
-    meant_back : and_then (due_record answer_shape left len rest) (and_then (due_run step_shape left len (step_count rest) steps_at) (due_end left len (drop (13 * step_count rest) steps_at))) ≡ Ok tt
+    meant_back : result_and (due_record answer_shape left len rest) (result_and (due_run step_shape left len (step_count rest) steps_at) (due_end left len (drop (13 * step_count rest) steps_at))) ≡ Ok tt
         → (ends c (Some meant) ≡ rest) × MeantValid c net meant
     meant_back e =
         let a = decoded answer_shape rest in
@@ -226,7 +217,7 @@ module _ {C L S : Type 0} (c : cost.Ghosts C L S) (laws : PageLaws c) where
     answer_again e = go (has_answer rest) e
       where
         go : (b : Bool)
-            → cond b (and_then (due_record answer_shape left len rest) (and_then (due_run step_shape left len (step_count rest) steps_at) (due_end left len (drop (13 * step_count rest) steps_at)))) (due_end left len rest) ≡ Ok tt
+            → cond b (result_and (due_record answer_shape left len rest) (result_and (due_run step_shape left len (step_count rest) steps_at) (due_end left len (drop (13 * step_count rest) steps_at)))) (due_end left len rest) ≡ Ok tt
             → (ends c (cond b (Some meant) None) ≡ rest) × AnswerValid c net (cond b (Some meant) None)
         go true e = meant_back e
         go false e = (end_back left len rest e, tt)

@@ -1,7 +1,7 @@
 -- Steps that are walked to the end are a route, and every cost that they show is right.
 use Rattle.std.proofs.Common.{◌≡◌, ℕ, zero, suc, ◌+◌, ◌*◌, ◌^◌, ◌<◌, ◌≤◌, Bool, true, false, cond, not, ◌&&◌, eqb, List, [], ◌∷◌, length, take, Some, None, Option, sym, refl, ap, ◌∙◌, subst, arith}
 use Rattle.std.specs.List.{AllByRecursion, slice_get}
-use Rattle.std.proofs.lemmas.Bool.{and_parts, eqb-true, eq-eqb, le-leb, false≢true}
+use Rattle.std.proofs.lemmas.Bool.{and_parts, eqb-true, eq-eqb, le-leb}
 use Rattle.amounts.specs.declared.cost.Cost as cost
 use Rattle.amounts.specs.Amount.{Laws, computed}
 use Rattle.networks.specs.declared.section.Section.{Section}
@@ -40,11 +40,11 @@ module _ {C L S : Type 0} (c : cost.Ghosts C L S) (laws : Laws c.ops) (net : Net
     pub cost : (computed c.ops).plus a (c.worth section.amount) ≡ s.so_far
 
   not_true : (b : Bool) → not b ≡ true → b ≡ false
-  not_true true e = absurd (false≢true e)
+  not_true true e = cc
   not_true false e = refl
 
   step_open : (u : ℕ) (a : L) (s : Step L) (o : Option (Section S)) → slice_get net.sections s.section ≡ o → step_right c u a s o ≡ true → Open u a s
-  step_open u a s None e r = absurd (false≢true r)
+  step_open u a s None e r = cc
   step_open u a s (Some x) e r =
       let p = and_parts (not x.shut) _ r in
       let q = and_parts (eqb x.from u) _ p.1 in
@@ -72,7 +72,7 @@ module _ {C L S : Type 0} (c : cost.Ghosts C L S) (laws : Laws c.ops) (net : Net
   pub walks_right : (n : ℕ) (steps : List (Step L)) (u : ℕ) (a : L) → c.ops.size a ≤ n * 2 ^ 32 → n + length steps ≤ 2 ^ 20 → Ends steps → walks c net u a total steps ≡ true → Right u a steps
   walks_right n [] u a h l ends e =
       let p = and_parts (eqb u net.trap) (same c a total) e in
-      record { joined = eqb-true u net.trap p.0; each = λ k s z. absurd (let y : ◌≡◌ {A = ℕ} 0 1 = cc in omega arith); whole = sym (same_eq a total p.1) ∙ sym (laws.unit a) }
+      record { joined = eqb-true u net.trap p.0; each = λ k s z. cc; whole = sym (same_eq a total p.1) ∙ sym (laws.unit a) }
   walks_right n (s ∷ ss) u a h l ends e =
       let p = and_parts (step_right c u a s (slice_get net.sections s.section)) (walks c net s.to s.so_far total ss) e in
       let o = step_open u a s (slice_get net.sections s.section) refl p.0 in

@@ -4,10 +4,10 @@ use Rattle.std.specs.List.{slice_get}
 use Rattle.std.proofs.lemmas.List.{drop_all}
 use Rattle.amounts.specs.declared.cost.Cost as cost
 use Rattle.networks.specs.Nets.{Net}
-use Rattle.networks.specs.Ranges.{on_some}
+use Rattle.std.specs.Option.{option_map}
 use Rattle.networks.proofs.Numbers.{drop_nth}
 use Rattle.contents.specs.declared.answer.Step.{Step}
-use Rattle.contents.specs.declared.answer.Filed.{Filed}
+use Rattle.contents.specs.declared.answer.Answer.{Answer}
 use Rattle.contents.specs.declared.answer.Outcome.{Outcome}
 use Rattle.contents.specs.declared.answer.Outcome.TheVariants.{Found, NoRoute}
 use Rattle.contents.specs.Content.{Meant, filed_by, steps_in}
@@ -31,7 +31,7 @@ module _ {C L S : Type 0} (c : cost.Ghosts C L S) (net : Net S) (total : L) (ste
   walk_all h = ap (walks c net u a total) (drop_all k steps h)
 
 -- an answer is retraced by its outcome
-module _ {C L S : Type 0} (c : cost.Ghosts C L S) (net : Net S) (o : Option (Meant L)) (f : Filed L) (told : Some f ≡ on_some filed_by o) where
+module _ {C L S : Type 0} (c : cost.Ghosts C L S) (net : Net S) (o : Option (Meant L)) (f : Answer L ℕ) (told : Some f ≡ option_map filed_by o) where
   retraced_by : (x : Outcome) → f.outcome ≡ x → walked c net x f.cost (steps_in o) ≡ retraced c net o
   retraced_by x e =
       let p = filed_some o f told in

@@ -14,7 +14,7 @@ use Rattle.contents.specs.Encoding.{section_record, estimate_record, step_record
 use Rattle.records.specs.Due.{page_fault}
 use Rattle.faults.specs.declared.Refusal.TheVariants.{EstimateCount, PageTooShort}
 use Rattle.contents.specs.Writing.{answer_size, needed, answer_fault, write_fault, write_of}
-use Rattle.contents.proofs.Forming.{section_laws, estimate_laws}
+use Rattle.records.specs.Laws.{section_laws, estimate_laws}
 use Rattle.contents.proofs.Overlays.{overlay_none, overlay_more, overlay_front, overlay_five}
 use Rattle.contents.proofs.Returning.{written_reads, answer_length, encode_length}
 
@@ -93,8 +93,8 @@ module _ {C L S : Type 0} (c : cost.Ghosts C L S) where
             → cond a (cond b (Some (page_fault (PageTooShort (needed x)))) inner) (Some (page_fault (EstimateCount (length x.estimates)))) ≡ None
             → (length x.estimates ≡ x.network.stations) × (needed x ≤ room) × (inner ≡ None)
         go true e false f n = (eqb-true _ _ e, ltb-false _ _ f, n)
-        go true e true f n = let z : ◌≡◌ {A = ℕ} 0 1 = cc in absurd (omega arith)
-        go false e b f n = let z : ◌≡◌ {A = ℕ} 0 1 = cc in absurd (omega arith)
+        go true e true f n = cc
+        go false e b f n = cc
 
     module _ (n : ℕ) (after : List ℕ) (size : n ≡ 10 + 12 * length x.network.sections + 21 * length x.estimates + answer_size x.answer + 1) (stands : after ≡ encode c x ++ drop (length (encode c x)) page) where
       encoded_size : n ≡ length (encode c x)

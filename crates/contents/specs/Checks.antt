@@ -5,7 +5,8 @@ use Rattle.faults.specs.declared.Refusal.TheVariants.{TrailingBytes}
 use Rattle.records.specs.declared.limits.Limits.{Limits}
 use Rattle.records.specs.declared.kinds.HeaderRecord.{HeaderRecord}
 use Rattle.records.specs.Shapes.{decoded}
-use Rattle.records.specs.Due.{page_fault, and_then, due_record, due_run}
+use Rattle.std.specs.Result.{result_and}
+use Rattle.records.specs.Due.{page_fault, due_record, due_run}
 use Rattle.records.specs.Layout.{header_shape, section_shape, estimate_shape, answer_shape, step_shape, end_shape}
 
 -- Where the records stand ----------------------------------------------------------------------
@@ -44,15 +45,15 @@ limits_for kind = record { kind = kind; stations = 0; sections = 0 }
 -- the end, and nothing after it
 abbrev pub due_end : Limits → ℕ → List ℕ → Result (Unit {0}) Fault
 due_end limits len rest =
-    and_then (due_record end_shape limits len rest)
+    result_and (due_record end_shape limits len rest)
     (cond (nat_lt 1 (length rest)) (Err (page_fault (TrailingBytes (len - length rest + 1)))) (Ok tt))
 
 -- perhaps an answer with its steps, then the end
 abbrev pub due_answer : Limits → ℕ → List ℕ → Result (Unit {0}) Fault
 due_answer limits len rest =
     cond (has_answer rest)
-    (and_then (due_record answer_shape limits len rest)
-    (and_then (due_run step_shape limits len (step_count rest) (step_bytes rest))
+    (result_and (due_record answer_shape limits len rest)
+    (result_and (due_run step_shape limits len (step_count rest) (step_bytes rest))
     (due_end limits len (drop (13 * step_count rest) (step_bytes rest)))))
     (due_end limits len rest)
 
@@ -60,9 +61,9 @@ abbrev pub check_page : ℕ → List ℕ → Result (Unit {0}) Fault
 check_page kind bs =
     let len = length bs in
     let limits = limits_of kind (header_of bs) in
-    and_then (due_record header_shape (limits_for kind) len bs)
-    (and_then (due_run section_shape limits len (header_of bs).sections (section_bytes bs))
-    (and_then (due_run estimate_shape limits len (header_of bs).stations (estimate_bytes bs))
+    result_and (due_record header_shape (limits_for kind) len bs)
+    (result_and (due_run section_shape limits len (header_of bs).sections (section_bytes bs))
+    (result_and (due_run estimate_shape limits len (header_of bs).stations (estimate_bytes bs))
     (due_answer limits len (answer_bytes bs))))
 
 -- the header of a page that passes

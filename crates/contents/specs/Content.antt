@@ -1,8 +1,9 @@
 -- What a page means: a network, estimates and perhaps an answer, in a kind of cost.
-use Rattle.std.specs.Prelude.{ℕ, cond, List, [], map, length, Some, None, Option, ◌==◌}
+use Rattle.std.specs.Prelude.{ℕ, cond, List, [], map, length, Some, None, Option, unwrap_or, ◌==◌}
+use Rattle.std.specs.Borrow.{Bor}
 use Rattle.std.specs.List.{slice_get}
 use Rattle.amounts.specs.declared.cost.Cost as cost
-use Rattle.amounts.specs.Forms.{section_form, label_form}
+use Rattle.amounts.specs.declared.cost.LabelForm.{LabelForm}
 use Rattle.faults.specs.declared.Side.{Side}
 use Rattle.faults.specs.declared.Side.TheVariants.{Forward, Backward}
 use Rattle.networks.specs.declared.section.Section.{Section}
@@ -17,7 +18,6 @@ use Rattle.records.specs.Layout.{section_shape, estimate_shape, answer_shape, st
 use Rattle.contents.specs.declared.answer.Outcome.{Outcome}
 use Rattle.contents.specs.declared.answer.Outcome.TheVariants.{Found, NoRoute}
 use Rattle.contents.specs.declared.answer.Step.{Step}
-use Rattle.contents.specs.declared.answer.Filed.{Filed}
 use Rattle.contents.specs.declared.answer.Answer.{Answer}
 use Rattle.contents.specs.Checks.{header_of, section_bytes, estimate_bytes, answer_bytes, has_answer, step_bytes}
 
@@ -48,10 +48,6 @@ abbrev pub to_of : {S : Type 0} → Option (Section S) → ℕ
 to_of None = 0
 to_of (Some s) = s.to
 
-abbrev pub or_else : {A : Type 0} → A → Option A → A
-or_else a None = a
-or_else a (Some b) = b
-
 -- the station at which a side comes to a section
 abbrev pub start_of : Side → SectionRecord → ℕ
 start_of Forward r = r.from
@@ -59,20 +55,20 @@ start_of Backward r = r.to
 
 module _ {C L S : Type 0} (c : cost.Ghosts C L S) where
   abbrev pub section_from : SectionRecord → Section S
-  section_from r = record { from = r.from; to = r.to; amount = c.made (section_form r.moves r.samples); shut = (r.state == 1) }
+  section_from r = record { from = r.from; to = r.to; amount = c.made r.amount; shut = (r.state == 1) }
 
   -- a form that the kind has not reads as zero; no accepted page has one
-  abbrev pub label_from : ℕ → ℕ → L
-  label_from moves samples = or_else c.ops.zero (c.told (label_form moves samples))
+  abbrev pub label_from : LabelForm → L
+  label_from form = unwrap_or (c.told form) c.ops.zero
 
   abbrev pub pair_from : EstimateRecord → Pair L
-  pair_from e = record { forward = label_from e.forward_moves e.forward_samples; backward = label_from e.backward_moves e.backward_samples }
+  pair_from e = record { forward = label_from e.forward; backward = label_from e.backward }
 
   -- a step has the ends of its section
   abbrev pub step_from : List (Section S) → StepRecord → Step L
   step_from sections p =
       let s = slice_get sections p.section in
-      record { section = p.section; from = from_of s; to = to_of s; so_far = label_from p.moves p.samples }
+      record { section = p.section; from = from_of s; to = to_of s; so_far = label_from p.so_far }
 
   abbrev pub net_of : List ℕ → Net S
   net_of bs =
@@ -84,7 +80,7 @@ module _ {C L S : Type 0} (c : cost.Ghosts C L S) where
 
   abbrev pub meant_by : List (Section S) → AnswerRecord → List StepRecord → Meant L
   meant_by sections a steps =
-      record { run = a.run; outcome = outcome_by a.outcome; cost = label_from a.moves a.samples; taken = a.taken; steps = map (step_from sections) steps }
+      record { run = a.run; outcome = outcome_by a.outcome; cost = label_from a.cost; taken = a.taken; steps = map (step_from sections) steps }
 
   abbrev pub answer_of : List ℕ → Option (Meant L)
   answer_of bs =
@@ -96,11 +92,11 @@ module _ {C L S : Type 0} (c : cost.Ghosts C L S) where
   content_of bs = record { network = net_of bs; estimates = pairs_of bs; answer = answer_of bs }
 
 -- what an answer that is put in means
-abbrev pub meant_of : {L : Type 0} → Answer L → Meant L
+abbrev pub meant_of : {L : Type 0} → Answer L (Bor (List (Step L))) → Meant L
 meant_of a = record { run = a.run; outcome = a.outcome; cost = a.cost; taken = a.taken; steps = a.steps.now }
 
 -- what a view tells of an answer at once
-abbrev pub filed_by : {L : Type 0} → Meant L → Filed L
+abbrev pub filed_by : {L : Type 0} → Meant L → Answer L ℕ
 filed_by m = record { run = m.run; outcome = m.outcome; cost = m.cost; taken = m.taken; steps = length m.steps }
 
 -- the steps of an answer; none where there is no answer

@@ -1,5 +1,5 @@
 -- The bytes of a page's content, and which contents a page can hold.
-use Rattle.std.specs.Prelude.{◌≡◌, ℕ, ◌^◌, ◌<◌, ◌≤◌, cond, List, [], ◌++◌, map, length, Some, None, Option}
+use Rattle.std.specs.Prelude.{◌≡◌, ℕ, ◌^◌, ◌<◌, ◌≤◌, cond, List, [], ◌++◌, map, length, Some, None, Option, unwrap_or}
 use Rattle.std.specs.List.{AllByRecursion, slice_get}
 use Rattle.amounts.specs.declared.cost.Cost as cost
 use Rattle.amounts.specs.declared.cost.LabelForm.{LabelForm}
@@ -18,7 +18,7 @@ use Rattle.records.specs.Layout.{header_shape, section_shape, estimate_shape, an
 use Rattle.contents.specs.declared.answer.Outcome.{Outcome}
 use Rattle.contents.specs.declared.answer.Outcome.TheVariants.{Found, NoRoute}
 use Rattle.contents.specs.declared.answer.Step.{Step}
-use Rattle.contents.specs.Content.{Meant, Content, or_else}
+use Rattle.contents.specs.Content.{Meant, Content}
 
 abbrev pub outcome_number : Outcome → ℕ
 outcome_number Found = 0
@@ -28,24 +28,21 @@ outcome_number NoRoute = 1
 
 module _ {C L S : Type 0} (c : cost.Ghosts C L S) where
   abbrev pub section_record : Section S → SectionRecord
-  section_record s =
-      let form = c.parts s.amount in
-      record { state = cond s.shut 1 0; from = s.from; to = s.to; moves = form.moves; samples = form.samples }
+  section_record s = record { state = cond s.shut 1 0; from = s.from; to = s.to; amount = c.parts s.amount }
 
   -- every amount that is written has a form
   abbrev pub form_of : L → LabelForm
-  form_of a = or_else (label_form 0 0) (c.shown a)
+  form_of a = unwrap_or (c.shown a) (label_form 0 0)
 
   abbrev pub estimate_record : Pair L → EstimateRecord
-  estimate_record p =
-      record { forward_moves = (form_of p.forward).moves; forward_samples = (form_of p.forward).samples; backward_moves = (form_of p.backward).moves; backward_samples = (form_of p.backward).samples }
+  estimate_record p = record { forward = form_of p.forward; backward = form_of p.backward }
 
   abbrev pub step_record : Step L → StepRecord
-  step_record s = record { section = s.section; moves = (form_of s.so_far).moves; samples = (form_of s.so_far).samples }
+  step_record s = record { section = s.section; so_far = form_of s.so_far }
 
   abbrev pub answer_record : Meant L → AnswerRecord
   answer_record m =
-      record { run = m.run; outcome = outcome_number m.outcome; moves = (form_of m.cost).moves; samples = (form_of m.cost).samples; steps = length m.steps; taken = m.taken }
+      record { run = m.run; outcome = outcome_number m.outcome; cost = form_of m.cost; steps = length m.steps; taken = m.taken }
 
   abbrev pub header_record : Net S → HeaderRecord
   header_record net = record { kind = c.KIND; stations = net.stations; sections = length net.sections; launcher = net.launcher; trap = net.trap }

@@ -1,5 +1,6 @@
 -- What is answered when a page is written, and what the page then holds.
 use Rattle.std.specs.Prelude.{ℕ, ◌+◌, ◌-◌, ◌*◌, ◌^◌, ◌<◌, min, Bool, true, false, cond, ◌&&◌, List, [], ◌∷◌, ◌++◌, length, drop, is_some, Some, None, Ok, Err, Option, Result, ◌==◌, nat_le, nat_lt}
+use Rattle.std.specs.Borrow.{Bor}
 use Rattle.std.specs.List.{AllByRecursion, slice_get}
 use Rattle.faults.specs.declared.Fault.{Fault}
 use Rattle.faults.specs.declared.Refusal.TheVariants.{EstimateCount, PageTooShort, FieldOutOfRange}
@@ -7,7 +8,7 @@ use Rattle.amounts.specs.declared.cost.Cost as cost
 use Rattle.networks.specs.declared.section.Section.{Section}
 use Rattle.networks.specs.declared.estimates.Pair.{Pair}
 use Rattle.networks.specs.Nets.{Net}
-use Rattle.networks.specs.Ranges.{on_some}
+use Rattle.std.specs.Option.{option_map}
 use Rattle.records.specs.Due.{page_fault}
 use Rattle.contents.specs.declared.answer.Outcome.{Outcome}
 use Rattle.contents.specs.declared.answer.Outcome.TheVariants.{Found, NoRoute}
@@ -17,8 +18,8 @@ use Rattle.contents.specs.Content.{Meant, Content, meant_of}
 use Rattle.contents.specs.Encoding.{form_of, encode}
 
 -- what is put in: a network, estimates, and perhaps an answer with its steps in a lent list
-abbrev pub content_by : {L S : Type 0} → Net S → List (Pair L) → Option (Answer L) → Content L S
-content_by net estimates answer = record { network = net; estimates = estimates; answer = on_some meant_of answer }
+abbrev pub content_by : {L S : Type 0} → Net S → List (Pair L) → Option (Answer L (Bor (List (Step L)))) → Content L S
+content_by net estimates answer = record { network = net; estimates = estimates; answer = option_map meant_of answer }
 
 -- the bytes of an answer with so many steps, or of none
 abbrev pub answer_size : {L : Type 0} → Option (Meant L) → ℕ

@@ -1,10 +1,25 @@
 //! The answer of a search, as a page holds it.
+ghost use Rattle.std.specs.Prelude.{◌≡◌};
 
-/// How a search ended: with a route, or with none.
-#[derive(Clone, Copy)]
+/// How a search ended: with a route, or with none. The numbers are those of a page.
+#[derive(Clone, Copy, Debug, PartialEq, Eq)]
 pub enum Outcome {
-    Found,
-    NoRoute,
+    Found = 0,
+    NoRoute = 1,
+}
+
+impl From<u8> for Outcome {
+    ghost use Rattle.contents.specs.Content.{outcome_by};
+
+    ghost from_gives = { λ number outcome. outcome ≡ outcome_by number };
+
+    /// A page that was read has no number but 0 and 1.
+    fn from(number: u8) -> Outcome {
+        match number {
+            0 => Outcome::Found,
+            _ => Outcome::NoRoute,
+        }
+    }
 }
 
 /// A step of a route: a section, its ends, and the cost up to its end.
@@ -16,22 +31,18 @@ pub struct Step<L> {
     pub so_far: L,
 }
 
-/// An answer without its steps, which are only counted.
+/// An answer, with what is held of its steps.
 #[derive(Clone, Copy)]
-pub struct Filed<L> {
+pub struct Answer<L, S> {
     pub run: u32,
     pub outcome: Outcome,
     pub cost: L,
     pub taken: usize,
-    pub steps: usize,
+    pub steps: S,
 }
 
+/// An answer whose steps are only counted.
+pub type Filed<L> = Answer<L, usize>;
+
 /// An answer to be written, with its steps in a lent list.
-#[derive(Clone, Copy)]
-pub struct Answer<'a, L> {
-    pub run: u32,
-    pub outcome: Outcome,
-    pub cost: L,
-    pub taken: usize,
-    pub steps: &'a [Step<L>],
-}
+pub type Told<'a, L> = Answer<L, &'a [Step<L>]>;

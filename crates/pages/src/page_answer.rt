@@ -1,42 +1,35 @@
 //! The answer on a page, read from the page's own bytes.
 ghost use Rattle.std.specs.Prelude.{◌≡◌, ◌+◌, ◌*◌, if◌then◌else◌, Some, None};
 ghost use Rattle.std.specs.List.{slice_get};
-ghost use Rattle.networks.specs.Ranges.{on_some};
+ghost use Rattle.std.specs.Option.{option_map};
 ghost use Rattle.records.specs.Layout.{answer_shape};
 ghost use Rattle.records.specs.Shapes.{decoded};
 ghost use Rattle.contents.specs.Checks.{header_of, answer_bytes, has_answer};
-ghost use Rattle.contents.specs.Content.{outcome_by, step_from, net_of, answer_of, filed_by, step_in};
+ghost use Rattle.contents.specs.Content.{step_from, net_of, answer_of, filed_by, step_in};
 
 use crate::page_network::{label_from, nth_record};
 use crate::view::PageView;
 use amounts::cost::Cost;
 use contents::answer::{Filed, Outcome, Step};
 use records::due::bytes_from;
-use records::kinds::{AnswerRecord, StepRecord};
+use records::kinds::{AnswerRecord, EstimateRecord, HeaderRecord, SectionRecord, StepRecord};
 use records::record::Record;
-
-fn outcome_by(number: u8) -> Outcome
-    ensures { result ≡ outcome_by number }
-{
-    match number {
-        0 => Outcome::Found,
-        _ => Outcome::NoRoute,
-    }
-}
 
 impl<C: Cost> PageView<'_, C> {
     /// Where an answer, or the end, stands.
     fn answer_at(&self) -> usize
         ensures { result ≡ 10 + 12 * (header_of self.now.bytes.now).sections + 21 * (header_of self.now.bytes.now).stations }
     {
-        10 + 12 * usize::from(self.header.sections) + 21 * usize::from(self.header.stations)
+        HeaderRecord::SIZE
+            + SectionRecord::SIZE * usize::from(self.header.sections)
+            + EstimateRecord::SIZE * usize::from(self.header.stations)
     }
 
     fn answer_record(&self) -> Option<AnswerRecord>
         ensures { result ≡ (if has_answer (answer_bytes self.now.bytes.now) then Some (decoded answer_shape (answer_bytes self.now.bytes.now)) else None) }
     {
         let rest = bytes_from(self.bytes, self.answer_at());
-        let [0x41, ..] = rest else {
+        let [AnswerRecord::KIND, ..] = rest else {
             return None;
         };
         AnswerRecord::front(rest)
@@ -44,13 +37,13 @@ impl<C: Cost> PageView<'_, C> {
 
     /// The answer on the page, if there is one, without its steps.
     pub fn answer(&self) -> Option<Filed<C::Label>>
-        ensures { result ≡ on_some filed_by (answer_of C.Cost self.now.bytes.now) }
+        ensures { result ≡ option_map filed_by (answer_of C.Cost self.now.bytes.now) }
     {
         let body = self.answer_record()?;
         Some(Filed {
             run: body.run,
-            outcome: outcome_by(body.outcome),
-            cost: label_from::<C>(body.moves, body.samples),
+            outcome: Outcome::from(body.outcome),
+            cost: label_from::<C>(body.cost),
             taken: usize::from(body.taken),
             steps: usize::from(body.steps),
         })
@@ -66,7 +59,7 @@ impl<C: Cost> PageView<'_, C> {
             section,
             from,
             to,
-            so_far: label_from::<C>(body.moves, body.samples),
+            so_far: label_from::<C>(body.so_far),
         }
     }
 
@@ -77,7 +70,7 @@ impl<C: Cost> PageView<'_, C> {
         let answer = self.answer_record()?;
         let body: StepRecord = nth_record(
             self.bytes,
-            self.answer_at() + 20,
+            self.answer_at() + AnswerRecord::SIZE,
             usize::from(answer.steps),
             k,
         )?;

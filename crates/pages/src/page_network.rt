@@ -8,24 +8,29 @@ ghost use Rattle.contents.specs.Checks.{header_of, section_bytes, estimate_bytes
 ghost use Rattle.contents.specs.Content.{start_of, from_of, to_of, section_from, label_from, pair_from, net_of, pairs_of};
 
 use crate::view::PageView;
-use amounts::cost::{Cost, LabelForm, SectionForm};
+use amounts::cost::{Cost, LabelForm};
 use faults::Side;
 use networks::estimates::{Estimates, Pair};
 use networks::network::Network;
 use networks::section::Section;
 use records::due::bytes_from;
-use records::kinds::{EstimateRecord, SectionRecord};
+use records::kinds::{EstimateRecord, HeaderRecord, SectionRecord};
 use records::record::Record;
 
 /// The k-th of so many records from an offset on.
-pub(crate) fn nth_record<R: Record>(bytes: &[u8], from: usize, count: usize, k: usize) -> Option<R>
+pub(crate) fn nth_record<R: Record<SIZE>, const SIZE: usize>(
+    bytes: &[u8],
+    from: usize,
+    count: usize,
+    k: usize,
+) -> Option<R>
     requires { from + size_of R.Record.shape * count ≤ length bytes.now }
     ensures { result ≡ slice_get (decoded_run R.Record.shape count (drop from bytes.now)) k }
 {
     if k >= count {
         return None;
     }
-    R::front(bytes_from(bytes, from + R::size() * k))
+    R::front(bytes_from(bytes, from + SIZE * k))
 }
 
 /// The section that a record tells.
@@ -35,30 +40,24 @@ fn section_from<C: Cost>(body: SectionRecord) -> Section<C::Section>
     Section {
         from: usize::from(body.from),
         to: usize::from(body.to),
-        amount: C::made(SectionForm {
-            moves: body.moves,
-            samples: body.samples,
-        }),
+        amount: C::made(body.amount),
         shut: body.state == 1,
     }
 }
 
-/// The amount that moves and samples tell, or zero.
-pub(crate) fn label_from<C: Cost>(moves: u32, samples: u64) -> C::Label
-    ensures { result ≡ label_from C.Cost moves samples }
+/// The amount that a form tells, or zero.
+pub(crate) fn label_from<C: Cost>(form: LabelForm) -> C::Label
+    ensures { result ≡ label_from C.Cost form }
 {
-    match C::told(LabelForm { moves, samples }) {
-        Some(label) => label,
-        None => C::ZERO,
-    }
+    C::told(form).unwrap_or(C::ZERO)
 }
 
 fn pair_from<C: Cost>(body: EstimateRecord) -> Pair<C::Label>
     ensures { result ≡ pair_from C.Cost body }
 {
     Pair {
-        forward: label_from::<C>(body.forward_moves, body.forward_samples),
-        backward: label_from::<C>(body.backward_moves, body.backward_samples),
+        forward: label_from::<C>(body.forward),
+        backward: label_from::<C>(body.backward),
     }
 }
 
@@ -96,13 +95,18 @@ impl<C: Cost> PageView<'_, C> {
     fn section_record(&self, number: usize) -> Option<SectionRecord>
         ensures { result ≡ slice_get (decoded_run section_shape (header_of self.now.bytes.now).sections (section_bytes self.now.bytes.now)) number }
     {
-        nth_record(self.bytes, 10, usize::from(self.header.sections), number)
+        nth_record(
+            self.bytes,
+            HeaderRecord::SIZE,
+            usize::from(self.header.sections),
+            number,
+        )
     }
 
     fn estimate_record(&self, station: usize) -> Option<EstimateRecord>
         ensures { result ≡ slice_get (decoded_run estimate_shape (header_of self.now.bytes.now).stations (estimate_bytes self.now.bytes.now)) station }
     {
-        let from = 10 + 12 * usize::from(self.header.sections);
+        let from = HeaderRecord::SIZE + SectionRecord::SIZE * usize::from(self.header.sections);
         nth_record(self.bytes, from, usize::from(self.header.stations), station)
     }
 }

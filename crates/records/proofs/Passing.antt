@@ -8,24 +8,22 @@ use Rattle.faults.specs.declared.Fault.{Fault}
 use Rattle.records.specs.declared.limits.Limits.{Limits}
 use Rattle.records.specs.Bytes.{fields_at, body_of, width_of, Fits, Bytes}
 use Rattle.records.specs.Shapes.{Shape, ShapeLaws, size_of, encoded, decoded, decoded_run, encoded_run}
-use Rattle.records.specs.Due.{and_then, due_record, due_run}
+use Rattle.std.specs.Result.{result_and}
+use Rattle.records.specs.Due.{due_record, due_run}
 use Rattle.records.proofs.Coding.{length-body, body_all, length_fields, fields_fit, fields_body, body_fields}
 
 -- what was passed on the way to an answer
-never : {A : Type 0} {f : Fault} {a : A} → Err f ≡ Ok a → ⊥
-never e = let z : ◌≡◌ {A = ℕ} 0 1 = cc in omega arith
-
 picks : {A : Type 0} (b : Bool) (f : Fault) (a : Result A Fault) (x : A) → cond b (Err f) a ≡ Ok x → (b ≡ false) × (a ≡ Ok x)
-picks true f a x e = absurd (never e)
+picks true f a x e = cc
 picks false f a x e = (refl, e)
 
 keeps : {A : Type 0} (b : Bool) (a : Result A Fault) (f : Fault) (x : A) → cond b a (Err f) ≡ Ok x → (b ≡ true) × (a ≡ Ok x)
 keeps true a f x e = (refl, e)
-keeps false a f x e = absurd (never e)
+keeps false a f x e = cc
 
-both : {A B : Type 0} (a : Result A Fault) (b : Result B Fault) (y : B) → and_then a b ≡ Ok y → (x : A) × (a ≡ Ok x) × (b ≡ Ok y)
+pub both : {A B : Type 0} (a : Result A Fault) (b : Result B Fault) (y : B) → result_and a b ≡ Ok y → (x : A) × (a ≡ Ok x) × (b ≡ Ok y)
 both (Ok x) b y e = (x, refl, e)
-both (Err f) b y e = absurd (never e)
+both (Err f) b y e = cc
 
 module _ {R : Type 0} (shape : Shape R) where
   -- what stands where a record passed
@@ -36,7 +34,7 @@ module _ {R : Type 0} (shape : Shape R) where
     pub good : shape.good limits (decoded shape bs) ≡ true
 
   pub due_stands : (limits : Limits) (len : ℕ) (bs : List ℕ) (r : R) → due_record shape limits len bs ≡ Ok r → Stands limits bs r
-  due_stands limits len [] r e = absurd (never e)
+  due_stands limits len [] r e = cc
   due_stands limits len (b ∷ bs) r e =
       let p = keeps (eqb b shape.byte) _ _ r e in
       let q = picks (ltb (length (b ∷ bs)) (size_of shape)) _ _ r p.1 in
@@ -124,7 +122,7 @@ module _ {R : Type 0} (shape : Shape R) (laws : ShapeLaws shape) where
   run_written limits len (r ∷ rs) rest f g =
       let more : List ℕ = encoded_run shape rs ++ rest in
       ap (due_run shape limits len (length (r ∷ rs))) (append_assoc (encoded shape r) (encoded_run shape rs) rest)
-      ∙ ap₂ and_then (due_written limits len r more f.0 g.0)
+      ∙ ap₂ result_and (due_written limits len r more f.0 g.0)
       (ap (due_run shape limits len (length rs)) (drop_at (encoded shape r) more (size_of shape) (length-encoded r)) ∙ run_written limits len rs rest f.1 g.1)
 
   pub run_stands : (limits : Limits) (len n : ℕ) (bs : List ℕ) → Bytes bs → due_run shape limits len n bs ≡ Ok tt → RunStands shape limits n bs

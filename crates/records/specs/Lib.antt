@@ -4,3 +4,4 @@ pub mod Due
 pub mod Values
 pub mod Layout
 pub mod Fields
+pub mod Laws

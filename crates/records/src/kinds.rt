@@ -1,35 +1,39 @@
 //! The kinds of records.
 ghost use Rattle.records.specs.Layout.{header_shape, section_shape, estimate_shape, answer_shape, step_shape, end_shape};
+ghost use Rattle.records.specs.Laws.{header_laws, section_laws, estimate_laws, answer_laws, step_laws, end_laws};
 ghost use Rattle.std.specs.Prelude.{refl};
-ghost use Rattle.std.proofs.Common.{lit<, lit≤};
-ghost use Rattle.records.specs.Fields.{placed_all};
 
-use crate::limits::Limits;
-use crate::numbers::{bytes1, bytes2, bytes4, bytes6, label_fits, moves_fit, number6};
-use crate::record::{LONGEST, Record};
+use crate::limits::{Limits, MOST_SECTIONS, MOST_STATIONS, MOST_STEPS};
+use crate::numbers::{label_bytes, label_fits, label_of, moves_fit, section_bytes, section_of};
+use crate::record::Record;
+use amounts::cost::{LabelForm, SectionForm};
 
 /// The body of an S record.
 #[derive(Clone, Copy)]
 pub struct SectionRecord {
+    // Kept: (a) the page's own byte, 0 or 1 or worse, which `keeps` judges after it is read.
     pub state: u8,
     pub from: u16,
     pub to: u16,
-    pub moves: u16,
-    pub samples: u32,
+    pub amount: SectionForm,
 }
 
-impl Record for SectionRecord {
+impl SectionRecord {
+    pub const SIZE: usize = 12;
+}
+
+impl Record<{ SectionRecord::SIZE }> for SectionRecord {
     ghost shape = { section_shape };
 
-    ghost lawful = { record { byte = lit< tt; short = lit≤ tt; of_fields = λ r. refl; fields_of = placed_all 5 } };
+    ghost KIND = { 0x53 };
 
-    fn kind_byte() -> u8 {
-        0x53
-    }
+    ghost lawful = { section_laws };
 
-    fn size() -> usize {
-        12
-    }
+    ghost kinded = { refl };
+
+    ghost sized = { refl };
+
+    const KIND: u8 = 0x53;
 
     fn front(bytes: &[u8]) -> Option<SectionRecord> {
         let [_, state, f1, f0, t1, t0, m1, m0, s3, s2, s1, s0, ..] = bytes else {
@@ -39,8 +43,7 @@ impl Record for SectionRecord {
             state: *state,
             from: u16::from_be_bytes([*f1, *f0]),
             to: u16::from_be_bytes([*t1, *t0]),
-            moves: u16::from_be_bytes([*m1, *m0]),
-            samples: u32::from_be_bytes([*s3, *s2, *s1, *s0]),
+            amount: section_of([*m1, *m0, *s3, *s2, *s1, *s0]),
         })
     }
 
@@ -48,24 +51,22 @@ impl Record for SectionRecord {
         self.state <= 1
             && self.from < limits.stations
             && self.to < limits.stations
-            && moves_fit(limits.kind, u32::from(self.moves))
+            && moves_fit(limits.kind, u32::from(self.amount.moves))
     }
 
-    fn padded(&self) -> [u8; LONGEST] {
-        let [state] = bytes1(self.state);
-        let [f1, f0] = bytes2(self.from);
-        let [t1, t0] = bytes2(self.to);
-        let [m1, m0] = bytes2(self.moves);
-        let [s3, s2, s1, s0] = bytes4(self.samples);
-        [
-            0x53, state, f1, f0, t1, t0, m1, m0, s3, s2, s1, s0, 0, 0, 0, 0, 0, 0, 0, 0, 0,
-        ]
+    fn bytes(&self) -> [u8; SectionRecord::SIZE] {
+        let [state] = self.state.to_be_bytes();
+        let [f1, f0] = self.from.to_be_bytes();
+        let [t1, t0] = self.to.to_be_bytes();
+        let [m1, m0, s3, s2, s1, s0] = section_bytes(self.amount);
+        [Self::KIND, state, f1, f0, t1, t0, m1, m0, s3, s2, s1, s0]
     }
 }
 
 /// The body of an H record.
 #[derive(Clone, Copy)]
 pub struct HeaderRecord {
+    // Kept: (a) the page's own byte, of any kind, which `keeps` judges after it is read.
     pub kind: u8,
     pub stations: u16,
     pub sections: u16,
@@ -73,18 +74,22 @@ pub struct HeaderRecord {
     pub trap: u16,
 }
 
-impl Record for HeaderRecord {
+impl HeaderRecord {
+    pub const SIZE: usize = 10;
+}
+
+impl Record<{ HeaderRecord::SIZE }> for HeaderRecord {
     ghost shape = { header_shape };
 
-    ghost lawful = { record { byte = lit< tt; short = lit≤ tt; of_fields = λ r. refl; fields_of = placed_all 5 } };
+    ghost KIND = { 0x48 };
 
-    fn kind_byte() -> u8 {
-        0x48
-    }
+    ghost lawful = { header_laws };
 
-    fn size() -> usize {
-        10
-    }
+    ghost kinded = { refl };
+
+    ghost sized = { refl };
+
+    const KIND: u8 = 0x48;
 
     fn front(bytes: &[u8]) -> Option<HeaderRecord> {
         let [_, kind, n1, n0, s1, s0, l1, l0, t1, t0, ..] = bytes else {
@@ -102,94 +107,66 @@ impl Record for HeaderRecord {
     fn keeps(&self, limits: &Limits) -> bool {
         self.kind == limits.kind
             && 1 <= self.stations
-            && self.stations <= 4096
-            && self.sections <= 16384
+            && self.stations <= MOST_STATIONS
+            && self.sections <= MOST_SECTIONS
             && self.launcher < self.stations
             && self.trap < self.stations
     }
 
-    fn padded(&self) -> [u8; LONGEST] {
-        let [kind] = bytes1(self.kind);
-        let [n1, n0] = bytes2(self.stations);
-        let [s1, s0] = bytes2(self.sections);
-        let [l1, l0] = bytes2(self.launcher);
-        let [t1, t0] = bytes2(self.trap);
-        [
-            0x48, kind, n1, n0, s1, s0, l1, l0, t1, t0, 0, 0, 0, 0, 0, 0, 0, 0, 0, 0, 0,
-        ]
+    fn bytes(&self) -> [u8; HeaderRecord::SIZE] {
+        let [kind] = self.kind.to_be_bytes();
+        let [n1, n0] = self.stations.to_be_bytes();
+        let [s1, s0] = self.sections.to_be_bytes();
+        let [l1, l0] = self.launcher.to_be_bytes();
+        let [t1, t0] = self.trap.to_be_bytes();
+        [Self::KIND, kind, n1, n0, s1, s0, l1, l0, t1, t0]
     }
 }
 
 /// The body of an E record.
 #[derive(Clone, Copy)]
 pub struct EstimateRecord {
-    pub forward_moves: u32,
-    pub forward_samples: u64,
-    pub backward_moves: u32,
-    pub backward_samples: u64,
+    pub forward: LabelForm,
+    pub backward: LabelForm,
 }
 
-impl Record for EstimateRecord {
+impl EstimateRecord {
+    pub const SIZE: usize = 21;
+}
+
+impl Record<{ EstimateRecord::SIZE }> for EstimateRecord {
     ghost shape = { estimate_shape };
 
-    ghost lawful = { record { byte = lit< tt; short = lit≤ tt; of_fields = λ r. refl; fields_of = placed_all 4 } };
+    ghost KIND = { 0x45 };
 
-    fn kind_byte() -> u8 {
-        0x45
-    }
+    ghost lawful = { estimate_laws };
 
-    fn size() -> usize {
-        21
-    }
+    ghost kinded = { refl };
+
+    ghost sized = { refl };
+
+    const KIND: u8 = 0x45;
 
     fn front(bytes: &[u8]) -> Option<EstimateRecord> {
-        let [
-            _,
-            m3,
-            m2,
-            m1,
-            m0,
-            s5,
-            s4,
-            s3,
-            s2,
-            s1,
-            s0,
-            n3,
-            n2,
-            n1,
-            n0,
-            t5,
-            t4,
-            t3,
-            t2,
-            t1,
-            t0,
-            ..
-        ] = bytes
-        else {
-            return None;
-        };
+        let (_, rest) = bytes.split_first()?;
+        let (forward, rest) = rest.split_first_chunk()?;
+        let (backward, _) = rest.split_first_chunk()?;
         Some(EstimateRecord {
-            forward_moves: u32::from_be_bytes([*m3, *m2, *m1, *m0]),
-            forward_samples: number6(*s5, *s4, *s3, *s2, *s1, *s0),
-            backward_moves: u32::from_be_bytes([*n3, *n2, *n1, *n0]),
-            backward_samples: number6(*t5, *t4, *t3, *t2, *t1, *t0),
+            forward: label_of(*forward),
+            backward: label_of(*backward),
         })
     }
 
     fn keeps(&self, limits: &Limits) -> bool {
-        label_fits(limits.kind, self.forward_moves, self.forward_samples)
-            && label_fits(limits.kind, self.backward_moves, self.backward_samples)
+        label_fits(limits.kind, self.forward) && label_fits(limits.kind, self.backward)
     }
 
-    fn padded(&self) -> [u8; LONGEST] {
-        let [m3, m2, m1, m0] = bytes4(self.forward_moves);
-        let [s5, s4, s3, s2, s1, s0] = bytes6(self.forward_samples);
-        let [n3, n2, n1, n0] = bytes4(self.backward_moves);
-        let [t5, t4, t3, t2, t1, t0] = bytes6(self.backward_samples);
+    fn bytes(&self) -> [u8; EstimateRecord::SIZE] {
+        let kind = Self::KIND;
+        let [m3, m2, m1, m0, s5, s4, s3, s2, s1, s0] = label_bytes(self.forward);
+        let [n3, n2, n1, n0, t5, t4, t3, t2, t1, t0] = label_bytes(self.backward);
         [
-            0x45, m3, m2, m1, m0, s5, s4, s3, s2, s1, s0, n3, n2, n1, n0, t5, t4, t3, t2, t1, t0,
+            kind, m3, m2, m1, m0, s5, s4, s3, s2, s1, s0, n3, n2, n1, n0, t5, t4, t3, t2, t1, t0,
         ]
     }
 }
@@ -198,58 +175,41 @@ impl Record for EstimateRecord {
 #[derive(Clone, Copy)]
 pub struct AnswerRecord {
     pub run: u32,
+    // Kept: (a) the page's own byte, 0 or 1 or worse, which `keeps` judges after it is read.
     pub outcome: u8,
-    pub moves: u32,
-    pub samples: u64,
+    pub cost: LabelForm,
     pub steps: u16,
     pub taken: u16,
 }
 
-impl Record for AnswerRecord {
+impl AnswerRecord {
+    pub const SIZE: usize = 20;
+}
+
+impl Record<{ AnswerRecord::SIZE }> for AnswerRecord {
     ghost shape = { answer_shape };
 
-    ghost lawful = { record { byte = lit< tt; short = lit≤ tt; of_fields = λ r. refl; fields_of = placed_all 6 } };
+    ghost KIND = { 0x41 };
 
-    fn kind_byte() -> u8 {
-        0x41
-    }
+    ghost lawful = { answer_laws };
 
-    fn size() -> usize {
-        20
-    }
+    ghost kinded = { refl };
+
+    ghost sized = { refl };
+
+    const KIND: u8 = 0x41;
 
     fn front(bytes: &[u8]) -> Option<AnswerRecord> {
-        let [
-            _,
-            r3,
-            r2,
-            r1,
-            r0,
-            outcome,
-            m3,
-            m2,
-            m1,
-            m0,
-            s5,
-            s4,
-            s3,
-            s2,
-            s1,
-            s0,
-            n1,
-            n0,
-            t1,
-            t0,
-            ..
-        ] = bytes
-        else {
+        let [_, r3, r2, r1, r0, outcome, rest @ ..] = bytes else {
+            return None;
+        };
+        let [m3, m2, m1, m0, s5, s4, s3, s2, s1, s0, n1, n0, t1, t0, ..] = rest else {
             return None;
         };
         Some(AnswerRecord {
             run: u32::from_be_bytes([*r3, *r2, *r1, *r0]),
             outcome: *outcome,
-            moves: u32::from_be_bytes([*m3, *m2, *m1, *m0]),
-            samples: number6(*s5, *s4, *s3, *s2, *s1, *s0),
+            cost: label_of([*m3, *m2, *m1, *m0, *s5, *s4, *s3, *s2, *s1, *s0]),
             steps: u16::from_be_bytes([*n1, *n0]),
             taken: u16::from_be_bytes([*t1, *t0]),
         })
@@ -257,22 +217,22 @@ impl Record for AnswerRecord {
 
     fn keeps(&self, limits: &Limits) -> bool {
         self.outcome <= 1
-            && label_fits(limits.kind, self.moves, self.samples)
-            && self.steps <= 4095
+            && label_fits(limits.kind, self.cost)
+            && self.steps <= MOST_STEPS
             && self.taken < limits.stations
-            && (self.outcome == 0 || self.moves == 0 && self.samples == 0 && self.steps == 0)
+            && (self.outcome == 0
+                || self.cost.moves == 0 && self.cost.samples == 0 && self.steps == 0)
     }
 
-    fn padded(&self) -> [u8; LONGEST] {
-        let [r3, r2, r1, r0] = bytes4(self.run);
-        let [outcome] = bytes1(self.outcome);
-        let [m3, m2, m1, m0] = bytes4(self.moves);
-        let [s5, s4, s3, s2, s1, s0] = bytes6(self.samples);
-        let [n1, n0] = bytes2(self.steps);
-        let [t1, t0] = bytes2(self.taken);
+    fn bytes(&self) -> [u8; AnswerRecord::SIZE] {
+        let kind = Self::KIND;
+        let [r3, r2, r1, r0] = self.run.to_be_bytes();
+        let [outcome] = self.outcome.to_be_bytes();
+        let [m3, m2, m1, m0, s5, s4, s3, s2, s1, s0] = label_bytes(self.cost);
+        let [n1, n0] = self.steps.to_be_bytes();
+        let [t1, t0] = self.taken.to_be_bytes();
         [
-            0x41, r3, r2, r1, r0, outcome, m3, m2, m1, m0, s5, s4, s3, s2, s1, s0, n1, n0, t1, t0,
-            0,
+            kind, r3, r2, r1, r0, outcome, m3, m2, m1, m0, s5, s4, s3, s2, s1, s0, n1, n0, t1, t0,
         ]
     }
 }
@@ -281,22 +241,25 @@ impl Record for AnswerRecord {
 #[derive(Clone, Copy)]
 pub struct StepRecord {
     pub section: u16,
-    pub moves: u32,
-    pub samples: u64,
+    pub so_far: LabelForm,
 }
 
-impl Record for StepRecord {
+impl StepRecord {
+    pub const SIZE: usize = 13;
+}
+
+impl Record<{ StepRecord::SIZE }> for StepRecord {
     ghost shape = { step_shape };
 
-    ghost lawful = { record { byte = lit< tt; short = lit≤ tt; of_fields = λ r. refl; fields_of = placed_all 3 } };
+    ghost KIND = { 0x50 };
 
-    fn kind_byte() -> u8 {
-        0x50
-    }
+    ghost lawful = { step_laws };
 
-    fn size() -> usize {
-        13
-    }
+    ghost kinded = { refl };
+
+    ghost sized = { refl };
+
+    const KIND: u8 = 0x50;
 
     fn front(bytes: &[u8]) -> Option<StepRecord> {
         let [_, n1, n0, m3, m2, m1, m0, s5, s4, s3, s2, s1, s0, ..] = bytes else {
@@ -304,22 +267,18 @@ impl Record for StepRecord {
         };
         Some(StepRecord {
             section: u16::from_be_bytes([*n1, *n0]),
-            moves: u32::from_be_bytes([*m3, *m2, *m1, *m0]),
-            samples: number6(*s5, *s4, *s3, *s2, *s1, *s0),
+            so_far: label_of([*m3, *m2, *m1, *m0, *s5, *s4, *s3, *s2, *s1, *s0]),
         })
     }
 
     fn keeps(&self, limits: &Limits) -> bool {
-        self.section < limits.sections && label_fits(limits.kind, self.moves, self.samples)
+        self.section < limits.sections && label_fits(limits.kind, self.so_far)
     }
 
-    fn padded(&self) -> [u8; LONGEST] {
-        let [n1, n0] = bytes2(self.section);
-        let [m3, m2, m1, m0] = bytes4(self.moves);
-        let [s5, s4, s3, s2, s1, s0] = bytes6(self.samples);
-        [
-            0x50, n1, n0, m3, m2, m1, m0, s5, s4, s3, s2, s1, s0, 0, 0, 0, 0, 0, 0, 0, 0,
-        ]
+    fn bytes(&self) -> [u8; StepRecord::SIZE] {
+        let [n1, n0] = self.section.to_be_bytes();
+        let [m3, m2, m1, m0, s5, s4, s3, s2, s1, s0] = label_bytes(self.so_far);
+        [Self::KIND, n1, n0, m3, m2, m1, m0, s5, s4, s3, s2, s1, s0]
     }
 }
 
@@ -327,18 +286,22 @@ impl Record for StepRecord {
 #[derive(Clone, Copy)]
 pub struct EndRecord;
 
-impl Record for EndRecord {
+impl EndRecord {
+    pub const SIZE: usize = 1;
+}
+
+impl Record<{ EndRecord::SIZE }> for EndRecord {
     ghost shape = { end_shape };
 
-    ghost lawful = { record { byte = lit< tt; short = lit≤ tt; of_fields = λ r. refl; fields_of = placed_all 0 } };
+    ghost KIND = { 0x5a };
 
-    fn kind_byte() -> u8 {
-        0x5a
-    }
+    ghost lawful = { end_laws };
 
-    fn size() -> usize {
-        1
-    }
+    ghost kinded = { refl };
+
+    ghost sized = { refl };
+
+    const KIND: u8 = 0x5a;
 
     fn front(bytes: &[u8]) -> Option<EndRecord> {
         let [_, ..] = bytes else {
@@ -351,9 +314,7 @@ impl Record for EndRecord {
         true
     }
 
-    fn padded(&self) -> [u8; LONGEST] {
-        [
-            0x5a, 0, 0, 0, 0, 0, 0, 0, 0, 0, 0, 0, 0, 0, 0, 0, 0, 0, 0, 0, 0,
-        ]
+    fn bytes(&self) -> [u8; EndRecord::SIZE] {
+        [Self::KIND]
     }
 }

@@ -1,40 +1,49 @@
-//! Numbers in bytes, high byte first.
-ghost use Rattle.std.specs.Prelude.{◌≡◌, ◌+◌, ◌*◌};
-ghost use Rattle.amounts.specs.Forms.{moves_fit};
-ghost use Rattle.records.specs.Bytes.{bytes_of};
+//! Amounts in bytes, high byte first, and which of them fit.
+ghost use Rattle.std.specs.Prelude.{◌≡◌, ◌++◌};
+ghost use Rattle.amounts.specs.Forms.{section_form, label_form, moves_fit};
+ghost use Rattle.records.specs.Bytes.{number_at, bytes_of};
 ghost use Rattle.records.specs.Values.{label_fits};
 
-pub(crate) fn bytes1(n: u8) -> [u8; 1]
-    ensures { result ≡ bytes_of 1 n }
+use amounts::cost::{LabelForm, SectionForm};
+use amounts::limits::SAMPLES;
+
+/// A section's amount: moves in two bytes, samples in four.
+pub(crate) fn section_of(bytes: [u8; 6]) -> SectionForm
+    ensures { result ≡ section_form (number_at 2 bytes 0) (number_at 4 bytes 2) }
 {
-    [n]
+    let [m1, m0, s3, s2, s1, s0] = bytes;
+    SectionForm {
+        moves: u16::from_be_bytes([m1, m0]),
+        samples: u32::from_be_bytes([s3, s2, s1, s0]),
+    }
 }
 
-pub(crate) fn bytes2(n: u16) -> [u8; 2]
-    ensures { result ≡ bytes_of 2 n }
+pub(crate) fn section_bytes(form: SectionForm) -> [u8; 6]
+    ensures { result ≡ bytes_of 2 form.moves ++ bytes_of 4 form.samples }
 {
-    n.to_be_bytes()
+    let [m1, m0] = form.moves.to_be_bytes();
+    let [s3, s2, s1, s0] = form.samples.to_be_bytes();
+    [m1, m0, s3, s2, s1, s0]
 }
 
-pub(crate) fn bytes4(n: u32) -> [u8; 4]
-    ensures { result ≡ bytes_of 4 n }
+/// Any other amount: moves in four bytes, samples in six.
+pub(crate) fn label_of(bytes: [u8; 10]) -> LabelForm
+    ensures { result ≡ label_form (number_at 4 bytes 0) (number_at 6 bytes 4) }
 {
-    n.to_be_bytes()
+    let [m3, m2, m1, m0, s5, s4, s3, s2, s1, s0] = bytes;
+    LabelForm {
+        moves: u32::from_be_bytes([m3, m2, m1, m0]),
+        samples: u64::from_be_bytes([0, 0, s5, s4, s3, s2, s1, s0]),
+    }
 }
 
-/// The low six bytes.
-pub(crate) fn bytes6(n: u64) -> [u8; 6]
-    ensures { result ≡ bytes_of 6 n }
+/// Of the samples, the low six bytes.
+pub(crate) fn label_bytes(form: LabelForm) -> [u8; 10]
+    ensures { result ≡ bytes_of 4 form.moves ++ bytes_of 6 form.samples }
 {
-    let [_, _, b5, b4, b3, b2, b1, b0] = n.to_be_bytes();
-    [b5, b4, b3, b2, b1, b0]
-}
-
-/// The number in six bytes.
-pub(crate) fn number6(b5: u8, b4: u8, b3: u8, b2: u8, b1: u8, b0: u8) -> u64
-    ensures { result ≡ ((((b5 * 256 + b4) * 256 + b3) * 256 + b2) * 256 + b1) * 256 + b0 }
-{
-    u64::from_be_bytes([0, 0, b5, b4, b3, b2, b1, b0])
+    let [m3, m2, m1, m0] = form.moves.to_be_bytes();
+    let [_, _, s5, s4, s3, s2, s1, s0] = form.samples.to_be_bytes();
+    [m3, m2, m1, m0, s5, s4, s3, s2, s1, s0]
 }
 
 /// Whether a cost kind may have so many moves: kind 1 has none.
@@ -44,9 +53,9 @@ pub(crate) fn moves_fit(kind: u8, moves: u32) -> bool
     kind != 1 || moves == 0
 }
 
-/// Whether a cost kind may have so many moves and samples as an estimate or a cost.
-pub(crate) fn label_fits(kind: u8, moves: u32, samples: u64) -> bool
-    ensures { result ≡ label_fits kind moves samples }
+/// Whether a cost kind may have this amount as an estimate or a cost.
+pub(crate) fn label_fits(kind: u8, form: LabelForm) -> bool
+    ensures { result ≡ label_fits kind form }
 {
-    moves_fit(kind, moves) && samples < 1 << 44
+    moves_fit(kind, form.moves) && form.samples < SAMPLES
 }

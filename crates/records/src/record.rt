@@ -1,21 +1,16 @@
 //! What every kind of record has.
-ghost use Rattle.std.specs.Prelude.{◌≡◌, ◌-◌, ◌<◌, ◌≤◌, ◌++◌, length, replicate, MatchOption};
+ghost use Rattle.std.specs.Prelude.{◌≡◌, ℕ, ◌<◌, ◌≤◌, length, MatchOption};
 ghost use Rattle.records.specs.Shapes.{Shape, ShapeLaws, size_of, encoded, decoded};
 
 use crate::limits::Limits;
 
-/// The size of the longest record.
-pub const LONGEST: usize = 21;
-
-/// A kind byte, and a body whose length the kind fixes.
-pub trait Record: Sized {
+/// A kind byte, and a body whose length the kind fixes: together `SIZE` bytes.
+pub trait Record<const SIZE: usize>: Sized {
     ghost shape: { Shape Self };
 
-    fn kind_byte() -> u8
-        ensures { result ≡ shape.byte };
+    ghost KIND: { ℕ };
 
-    fn size() -> usize
-        ensures { result ≡ size_of shape };
+    const KIND: u8;
 
     /// The record at the front, whatever its kind byte says, if it is all there.
     fn front(bytes: &[u8]) -> Option<Self>
@@ -25,9 +20,13 @@ pub trait Record: Sized {
     fn keeps(&self, limits: &Limits) -> bool
         ensures { result ≡ shape.good limits.now self.now };
 
-    /// The record's bytes, and zeros after them.
-    fn padded(&self) -> [u8; LONGEST]
-        ensures { result ≡ encoded shape self.now ++ replicate (21 - size_of shape) 0 };
+    /// The record's bytes.
+    fn bytes(&self) -> [u8; SIZE]
+        ensures { result ≡ encoded shape self.now };
 
     ghost lawful: { ShapeLaws shape };
+
+    ghost kinded: { KIND ≡ shape.byte };
+
+    ghost sized: { SIZE ≡ size_of shape };
 }

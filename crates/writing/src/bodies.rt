@@ -3,10 +3,10 @@ ghost use Rattle.std.specs.Prelude.{◌≡◌, ◌^◌, ◌<◌, map, length};
 ghost use Rattle.std.specs.List.{AllByRecursion, slice_get};
 ghost use Rattle.networks.specs.Nets.{InRange};
 ghost use Rattle.contents.specs.Content.{meant_of};
-ghost use Rattle.contents.specs.Encoding.{form_of, outcome_number, header_record, section_record, estimate_record, answer_record, step_record};
+ghost use Rattle.contents.specs.Encoding.{form_of, header_record, section_record, estimate_record, answer_record, step_record};
 
 use amounts::cost::{Cost, LabelForm};
-use contents::answer::{Answer, Outcome, Step};
+use contents::answer::{Step, Told};
 use networks::estimates::{Estimates, Pair};
 use networks::network::Network;
 use networks::section::Section;
@@ -36,35 +36,20 @@ fn section_body<C: Cost>(section: Section<C::Section>) -> SectionRecord
     requires to { section.to < 2 ^ 16 }
     ensures { result ≡ section_record C.Cost section }
 {
-    let form = C::parts(section.amount);
     SectionRecord {
         state: u8::from(section.shut),
         from: section.from as u16,
         to: section.to as u16,
-        moves: form.moves,
-        samples: form.samples,
+        amount: C::parts(section.amount),
     }
 }
 
 fn estimate_body<C: Cost>(pair: Pair<C::Label>) -> EstimateRecord
     ensures { result ≡ estimate_record C.Cost pair }
 {
-    let forward = form_of::<C>(pair.forward);
-    let backward = form_of::<C>(pair.backward);
     EstimateRecord {
-        forward_moves: forward.moves,
-        forward_samples: forward.samples,
-        backward_moves: backward.moves,
-        backward_samples: backward.samples,
-    }
-}
-
-fn outcome_number(outcome: Outcome) -> u8
-    ensures { result ≡ outcome_number outcome }
-{
-    match outcome {
-        Outcome::Found => 0,
-        Outcome::NoRoute => 1,
+        forward: form_of::<C>(pair.forward),
+        backward: form_of::<C>(pair.backward),
     }
 }
 
@@ -77,18 +62,16 @@ fn run_number(run: u32) -> u32
     run
 }
 
-pub(crate) fn answer_body<C: Cost>(answer: &Answer<'_, C::Label>) -> AnswerRecord
+pub(crate) fn answer_body<C: Cost>(answer: &Told<'_, C::Label>) -> AnswerRecord
     requires steps { length answer.now.steps.now < 2 ^ 16 }
     requires taken { answer.now.taken < 2 ^ 16 }
     ensures run { answer.now.run < 2 ^ 32 }
     ensures body { result ≡ answer_record C.Cost (meant_of answer.now) }
 {
-    let form = form_of::<C>(answer.cost);
     AnswerRecord {
         run: run_number(answer.run),
-        outcome: outcome_number(answer.outcome),
-        moves: form.moves,
-        samples: form.samples,
+        outcome: answer.outcome as u8,
+        cost: form_of::<C>(answer.cost),
         steps: answer.steps.len() as u16,
         taken: answer.taken as u16,
     }
@@ -98,11 +81,9 @@ fn step_body<C: Cost>(step: Step<C::Label>) -> StepRecord
     requires { step.section < 2 ^ 16 }
     ensures { result ≡ step_record C.Cost step }
 {
-    let form = form_of::<C>(step.so_far);
     StepRecord {
         section: step.section as u16,
-        moves: form.moves,
-        samples: form.samples,
+        so_far: form_of::<C>(step.so_far),
     }
 }
 

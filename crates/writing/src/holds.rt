@@ -2,18 +2,17 @@
 ghost use Rattle.std.specs.Prelude.{◌≡◌, not, ◌+◌, ◌*◌, ◌^◌, ◌<◌, length};
 ghost use Rattle.std.specs.List.{position};
 ghost use Rattle.std.specs.Result.{result_err};
-ghost use Rattle.networks.specs.Ranges.{on_some};
+ghost use Rattle.std.specs.Option.{option_map};
 ghost use Rattle.contents.specs.Content.{meant_of};
 ghost use Rattle.contents.specs.Writing.{step_good, nothing_at, meant_good, steps_fault, answer_fault};
 
 use crate::bodies::form_of;
 use amounts::cost::Cost;
-use contents::answer::{Answer, Outcome, Step};
+use contents::answer::{Outcome, Step, Told};
 use faults::{Fault, Layer, Refusal};
 use networks::network::Network;
-
-/// The most steps of an answer.
-const MOST_STEPS: usize = 4095;
+use records::kinds::{AnswerRecord, StepRecord};
+use records::limits::MOST_STEPS;
 
 /// Whether the section is there, with these ends, and the cost so far stands on a page.
 fn step_good<C: Cost, N: Network<C>>(net: &N, step: Step<C::Label>) -> bool
@@ -39,12 +38,12 @@ fn nothing_at<C: Cost>(outcome: Outcome, cost: C::Label, steps: usize) -> bool
 }
 
 /// Whether a page can hold an answer, apart from its steps.
-fn meant_good<C: Cost, N: Network<C>>(net: &N, answer: &Answer<'_, C::Label>) -> bool
+fn meant_good<C: Cost, N: Network<C>>(net: &N, answer: &Told<'_, C::Label>) -> bool
     ensures { result ≡ meant_good C.Cost (N.Network.meaning net.now) (meant_of answer.now) }
 {
     let steps = answer.steps.len();
     C::shown(answer.cost).is_some()
-        && steps <= MOST_STEPS
+        && steps <= usize::from(MOST_STEPS)
         && answer.taken < net.stations()
         && nothing_at::<C>(answer.outcome, answer.cost, steps)
 }
@@ -67,7 +66,7 @@ fn check_steps<C: Cost, N: Network<C>>(
 {
     match first_bad::<C, N>(net, steps) {
         Some(k) => Err(Layer::Page.fault(Refusal::FieldOutOfRange {
-            offset: at + 13 * k,
+            offset: at + StepRecord::SIZE * k,
         })),
         None => Ok(()),
     }
@@ -77,10 +76,10 @@ fn check_steps<C: Cost, N: Network<C>>(
 pub(crate) fn check_answer<C: Cost, N: Network<C>>(
     net: &N,
     at: usize,
-    answer: &Option<Answer<'_, C::Label>>,
+    answer: &Option<Told<'_, C::Label>>,
 ) -> Result<(), Fault>
     requires { at < 2 ^ 32 }
-    ensures { result_err result ≡ answer_fault C.Cost (N.Network.meaning net.now) at (on_some meant_of answer.now) }
+    ensures { result_err result ≡ answer_fault C.Cost (N.Network.meaning net.now) at (option_map meant_of answer.now) }
 {
     let Some(answer) = answer else {
         return Ok(());
@@ -88,5 +87,5 @@ pub(crate) fn check_answer<C: Cost, N: Network<C>>(
     if !meant_good::<C, N>(net, answer) {
         return Err(Layer::Page.fault(Refusal::FieldOutOfRange { offset: at }));
     }
-    check_steps::<C, N>(net, at + 20, answer.steps)
+    check_steps::<C, N>(net, at + AnswerRecord::SIZE, answer.steps)
 }

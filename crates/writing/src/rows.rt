@@ -7,17 +7,15 @@ ghost use Rattle.writing.specs.Rows.{MadeOneByOne};
 use records::record::Record;
 
 /// Puts a record's bytes over those of the page from an offset on.
-pub(crate) fn put<R: Record>(page: &mut [u8], at: usize, body: &R)
+pub(crate) fn put<R: Record<SIZE>, const SIZE: usize>(page: &mut [u8], at: usize, body: &R)
     requires { at + size_of R.Record.shape ≤ length page.old }
     ensures { page.new ≡ overlay page.old at (encoded R.Record.shape body.now) }
 {
-    let size = R::size();
-    let bytes = body.padded();
-    page[at..at + size].copy_from_slice(&bytes[0..size]);
+    page[at..at + SIZE].copy_from_slice(&body.bytes());
 }
 
 /// Puts so many records over the bytes of the page, one after another from an offset on.
-pub(crate) fn put_run<R: Record + Drop, F: Fn(usize) -> Option<R>>(
+pub(crate) fn put_run<R: Record<SIZE> + Drop, F: Fn(usize) -> Option<R>, const SIZE: usize>(
     page: &mut [u8],
     at: usize,
     count: usize,
@@ -31,6 +29,6 @@ pub(crate) fn put_run<R: Record + Drop, F: Fn(usize) -> Option<R>>(
         let Some(body) = make(k) else {
             return;
         };
-        put(page, at + R::size() * k, &body);
+        put(page, at + SIZE * k, &body);
     }
 }

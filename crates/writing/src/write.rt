@@ -1,7 +1,7 @@
 //! Writing a page.
 ghost use Rattle.std.specs.Prelude.{◌≡◌, ◌+◌, ◌≤◌, length, take, None, Ok, Err};
 ghost use Rattle.std.specs.Result.{result_err};
-ghost use Rattle.networks.specs.Ranges.{on_some};
+ghost use Rattle.std.specs.Option.{option_map};
 ghost use Rattle.records.specs.Bytes.{overlay};
 ghost use Rattle.contents.specs.Again.{Back};
 ghost use Rattle.contents.specs.Content.{meant_of};
@@ -12,39 +12,43 @@ use crate::bodies::{answer_body, estimate_row, header_body, section_row, step_ro
 use crate::holds::check_answer;
 use crate::rows::{put, put_run};
 use amounts::cost::Cost;
-use contents::answer::Answer;
+use contents::answer::Told;
 use faults::{Fault, Layer, Refusal};
 use networks::estimates::Estimates;
 use networks::network::Network;
-use records::kinds::EndRecord;
+use records::kinds::{
+    AnswerRecord, EndRecord, EstimateRecord, HeaderRecord, SectionRecord, StepRecord,
+};
 
 /// Where an answer at an offset ends with its steps, as far as a machine number goes.
-fn answer_end<L>(at: usize, answer: &Option<Answer<'_, L>>) -> usize
-    ensures { result ≡ placed (at + answer_size (on_some meant_of answer.now)) }
+fn answer_end<L>(at: usize, answer: &Option<Told<'_, L>>) -> usize
+    ensures { result ≡ placed (at + answer_size (option_map meant_of answer.now)) }
 {
     match answer {
         Some(answer) => at
-            .saturating_add(20)
-            .saturating_add(answer.steps.len().saturating_mul(13)),
+            .saturating_add(AnswerRecord::SIZE)
+            .saturating_add(answer.steps.len().saturating_mul(StepRecord::SIZE)),
         None => at,
     }
 }
 
 /// Puts an answer with its steps, if there is one, on the page from an offset on, and answers where they end.
-fn put_answer<C: Cost>(page: &mut [u8], at: usize, answer: &Option<Answer<'_, C::Label>>) -> usize
-    requires room { at + answer_size (on_some meant_of answer.now) ≤ length page.old }
-    requires short { Short (on_some meant_of answer.now) }
-    ensures end { result ≡ at + answer_size (on_some meant_of answer.now) }
-    ensures run { RunFits (on_some meant_of answer.now) }
-    ensures page { page.new ≡ overlay page.old at (answer_encoded C.Cost (on_some meant_of answer.now)) }
+fn put_answer<C: Cost>(page: &mut [u8], at: usize, answer: &Option<Told<'_, C::Label>>) -> usize
+    requires room { at + answer_size (option_map meant_of answer.now) ≤ length page.old }
+    requires short { Short (option_map meant_of answer.now) }
+    ensures end { result ≡ at + answer_size (option_map meant_of answer.now) }
+    ensures run { RunFits (option_map meant_of answer.now) }
+    ensures page { page.new ≡ overlay page.old at (answer_encoded C.Cost (option_map meant_of answer.now)) }
 {
     let Some(answer) = answer else {
         return at;
     };
     put(page, at, &answer_body::<C>(answer));
     let steps = answer.steps;
-    put_run(page, at + 20, steps.len(), |k| step_row::<C>(steps, k));
-    at + 20 + 13 * answer.steps.len()
+    put_run(page, at + AnswerRecord::SIZE, steps.len(), |k| {
+        step_row::<C>(steps, k)
+    });
+    at + AnswerRecord::SIZE + StepRecord::SIZE * steps.len()
 }
 
 /// Whether all can be written on a page of so many bytes; else the fault: other stations than the network's, too short
@@ -53,7 +57,7 @@ fn check_write<C: Cost, N: Network<C>, E: Estimates<C>>(
     room: usize,
     net: &N,
     estimates: &E,
-    answer: &Option<Answer<'_, C::Label>>,
+    answer: &Option<Told<'_, C::Label>>,
 ) -> Result<(), Fault>
     ensures { result_err result ≡ write_fault C.Cost room (content_by (N.Network.meaning net.now) (E.Estimates.meaning estimates.now) answer.now) }
 {
@@ -61,8 +65,10 @@ fn check_write<C: Cost, N: Network<C>, E: Estimates<C>>(
     if count != net.stations() {
         return Err(Layer::Page.fault(Refusal::EstimateCount { count }));
     }
-    let after = 10 + 12 * net.sections() + 21 * count;
-    let needed = answer_end(after, answer).saturating_add(1);
+    let after = HeaderRecord::SIZE
+        + SectionRecord::SIZE * net.sections()
+        + EstimateRecord::SIZE * count;
+    let needed = answer_end(after, answer).saturating_add(EndRecord::SIZE);
     if room < needed {
         return Err(Layer::Page.fault(Refusal::PageTooShort { needed }));
     }
@@ -74,7 +80,7 @@ fn put_page<C: Cost, N: Network<C>, E: Estimates<C>>(
     page: &mut [u8],
     net: &N,
     estimates: &E,
-    answer: &Option<Answer<'_, C::Label>>,
+    answer: &Option<Told<'_, C::Label>>,
 ) -> usize
     requires { write_fault C.Cost (length page.old) (content_by (N.Network.meaning net.now) (E.Estimates.meaning estimates.now) answer.now) ≡ None }
     ensures left { record { answer = Ok result; page = page.new } ≡ write_of C.Cost page.old (content_by (N.Network.meaning net.now) (E.Estimates.meaning estimates.now) answer.now) }
@@ -83,10 +89,10 @@ fn put_page<C: Cost, N: Network<C>, E: Estimates<C>>(
     let count = estimates.count();
     // Asked for what it promises: that the network is in range.
     let _stations = net.stations();
-    let pairs = 10 + 12 * net.sections();
-    let after = pairs + 21 * count;
+    let pairs = HeaderRecord::SIZE + SectionRecord::SIZE * net.sections();
+    let after = pairs + EstimateRecord::SIZE * count;
     put(page, 0, &header_body::<C, N>(net));
-    put_run(page, 10, net.sections(), |number| {
+    put_run(page, HeaderRecord::SIZE, net.sections(), |number| {
         section_row::<C, N>(net, number)
     });
     put_run(page, pairs, count, |station| {
@@ -94,7 +100,7 @@ fn put_page<C: Cost, N: Network<C>, E: Estimates<C>>(
     });
     let end = put_answer::<C>(page, after, answer);
     put(page, end, &EndRecord);
-    end + 1
+    end + EndRecord::SIZE
 }
 
 /// Writes a network, estimates and perhaps an answer over the front of the page, and answers how many bytes.
@@ -103,7 +109,7 @@ pub fn write<C: Cost, N: Network<C>, E: Estimates<C>>(
     page: &mut [u8],
     net: &N,
     estimates: &E,
-    answer: Option<Answer<'_, C::Label>>,
+    answer: Option<Told<'_, C::Label>>,
 ) -> Result<usize, Fault>
     ensures left { record { answer = result; page = page.new } ≡ write_of C.Cost page.old (content_by (N.Network.meaning net.now) (E.Estimates.meaning estimates.now) answer.entry) }
     ensures back { elim result [ Ok n ↦ Back C.Cost (content_by (N.Network.meaning net.now) (E.Estimates.meaning estimates.now) answer.entry) (take n page.new) | Err _ ↦ Unit {0} ] }

@@ -1,20 +1,32 @@
-use Rattle.std.proofs.Common.{◌≡◌, ◌*◌, true, drop, ap, ◌∙◌, rules}
+use Rattle.std.proofs.Common.{◌≡◌, ◌*◌, true, drop, ap, ◌∙◌, ap₂, rules}
 use Rattle.std.proofs.lemmas.Result.{err_from_is_err_and}
 use Rattle.std.proofs.lemmas.Bool.{eq-eqb}
-use Rattle.contents.specs.Checks.{has_answer}
+use Rattle.records.specs.Due.{due_run}
+use Rattle.records.specs.Layout.{step_shape}
+use Rattle.contents.specs.Checks.{has_answer, due_end}
 use Rattle.contents.proofs.Checking.{answer_stops, answer_ends}
 use Rattle.pages.proofs.check.check_answer.Goals as goal
 
 pub returns-in_err-due_run : goal.returns-in_err-due_run
 returns-in_err-due_run c =
-    let rest = c.args.rest.now in
-    let there : has_answer rest ≡ true = eq-eqb _ _ (search rules) in
+    let rest = c.args.rest in
+    let a = c.in_ok-answer.answer in
+    let steps = c.behind-steps.result in
+    let told = c.behind-steps.ensures in
+    let there : has_answer rest.bytes.now ≡ true = eq-eqb _ _ (search rules) in
     let p = err_from_is_err_and c.from_residual-in_err-due_run.result c.from_residual-in_err-due_run.ensures.1 in
-    rw (p.1, p.2) (answer_stops c.args.limits.now c.args.length rest _ there c.in_ok-answer.ensures _ _ c.bytes_from-steps.ensures c.in_err-due_run.ensures)
+    let run = c.in_err-due_run.ensures ∙ ap₂ (λ l n. due_run step_shape l n a.steps steps.bytes.now) told.limits told.length in
+    rw (p.1, p.2) (answer_stops rest.limits rest.length rest.bytes.now a there c.in_ok-answer.ensures _ steps.bytes.now told.bytes run)
 
 pub returns : goal.returns
 returns c =
-    let rest = c.args.rest.now in
-    let steps = c.bytes_from-steps.result.now in
-    let there : has_answer rest ≡ true = eq-eqb _ _ (search rules) in
-    c.check_end-2.ensures ∙ answer_ends c.args.limits.now c.args.length rest _ there c.in_ok-answer.ensures steps _ c.bytes_from-steps.ensures c.in_ok-due_run.ensures (c.bytes_from.ensures ∙ ap (λ n. drop (13 * n) steps) c.from.ensures)
+    let rest = c.args.rest in
+    let a = c.in_ok-answer.answer in
+    let steps = c.behind-steps.result in
+    let told = c.behind-steps.ensures in
+    let left = c.behind.result in
+    let there : has_answer rest.bytes.now ≡ true = eq-eqb _ _ (search rules) in
+    let run = c.in_ok-due_run.ensures ∙ ap₂ (λ l n. due_run step_shape l n a.steps steps.bytes.now) told.limits told.length in
+    c.check_end-2.ensures
+    ∙ ap₂ (λ l n. due_end l n left.bytes.now) (c.behind.ensures.limits ∙ told.limits) (c.behind.ensures.length ∙ told.length)
+    ∙ answer_ends rest.limits rest.length rest.bytes.now a there c.in_ok-answer.ensures steps.bytes.now left.bytes.now told.bytes run (c.behind.ensures.bytes ∙ ap (λ n. drop (13 * n) steps.bytes.now) c.from.ensures)

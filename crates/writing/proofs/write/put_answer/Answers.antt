@@ -1,6 +1,6 @@
 use Rattle.std.proofs.Common.{rules, ◌≡◌, map, Some, None, sym, ap, ◌∙◌, subst, arith}
 use Rattle.std.proofs.lemmas.List.{length-map}
-use Rattle.networks.specs.Ranges.{on_some}
+use Rattle.std.specs.Option.{option_map}
 use Rattle.records.specs.Bytes.{overlay}
 use Rattle.records.specs.Shapes.{encoded}
 use Rattle.records.specs.Layout.{answer_shape}
@@ -12,9 +12,9 @@ use Rattle.writing.proofs.write.put_answer.Goals as goal
 
 pub returns : goal.returns
 returns g c =
-    let o = on_some meant_of c.args.answer.now in
+    let o = option_map meant_of c.args.answer.now in
     let m = meant_of c.in-Some.answer in
-    let some : o ≡ Some m = ap (on_some meant_of) c.in-Some.is in
+    let some : o ≡ Some m = ap (option_map meant_of) c.in-Some.is in
     let size = ap answer_size some in
     let steps = c.in-Some.answer.steps.now in
     record {

@@ -1,6 +1,6 @@
 use Rattle.std.proofs.Common.{rules, ◌≡◌, map, ◌+◌, ◌*◌, ◌≤◌, length, ap, ◌∙◌, arith}
 use Rattle.std.proofs.lemmas.List.{length-map}
-use Rattle.networks.specs.Ranges.{on_some}
+use Rattle.std.specs.Option.{option_map}
 use Rattle.records.specs.Bytes.{overlay}
 use Rattle.records.specs.Shapes.{encoded}
 use Rattle.records.specs.Layout.{header_shape}
@@ -17,7 +17,7 @@ put_answer-end-requires g c =
     let x = content_by net (g.E.Estimates.meaning c.args.estimates.now) c.args.answer.now in
     let told = nothing_refused g.C.Cost c.args.page.now x _ c.requires in
     let room : needed x ≤ length c.args.page.now = told.1 in
-    let p = short g.C.Cost net _ (on_some meant_of c.args.answer.now) c.stations-stations.ensures.range told.2 in
+    let p = short g.C.Cost net _ (option_map meant_of c.args.answer.now) c.stations-stations.ensures.range told.2 in
     record { room = omega arith; short = p.0 }
 
 pub returns : goal.returns
@@ -25,7 +25,7 @@ returns g c =
     let k = g.C.Cost in
     let net = g.N.Network.meaning c.args.net.now in
     let pairs = g.E.Estimates.meaning c.args.estimates.now in
-    let o = on_some meant_of c.args.answer.now in
+    let o = option_map meant_of c.args.answer.now in
     let x = content_by net pairs c.args.answer.now in
     let page = c.args.page.now in
     let range = c.stations-stations.ensures.range in

@@ -1,5 +1,5 @@
 use Rattle.std.proofs.Common.{◌≡◌, Some, sym, ap, ◌∙◌}
-use Rattle.networks.specs.Ranges.{on_some}
+use Rattle.std.specs.Option.{option_map}
 use Rattle.contents.specs.Content.{filed_by}
 use Rattle.contents.proofs.Answers.{meaning, answer_some, answer_none, meaning_steps}
 use Rattle.pages.proofs.view.PageView.answer.Goals as goal
@@ -7,13 +7,13 @@ use Rattle.pages.proofs.view.PageView.answer.Goals as goal
 pub returns-in_err-body : goal.returns-in_err-body
 returns-in_err-body g c =
     let bs = c.args.self.now.bytes.now in
-    c.from_residual.ensures ∙ ap (on_some filed_by) (answer_none g.C.Cost bs (sym c.in_err-body.was ∙ c.answer_record.ensures))
+    c.from_residual.ensures ∙ ap (option_map filed_by) (answer_none g.C.Cost bs (sym c.in_err-body.was ∙ c.answer_record.ensures))
 
 pub returns : goal.returns
 returns g c =
     let bs = c.args.self.now.bytes.now in
     let k = g.C.Cost in
     let a = c.in_ok-body.body in
-    let steps = c.from-2.ensures ∙ sym (meaning_steps k bs a) in
-    let same : record { run = a.run; outcome = c.outcome_by.result; cost = c.label_from.result; taken = c.from.result; steps = c.from-2.result } ≡ filed_by (meaning k bs a) = cc in
-    ap Some same ∙ ap (on_some filed_by) (answer_some k bs a (sym c.in_ok-body.was ∙ c.answer_record.ensures))
+    let steps = c.from-3.ensures ∙ sym (meaning_steps k bs a) in
+    let same : record { run = a.run; outcome = c.from.result; cost = c.label_from.result; taken = c.from-2.result; steps = c.from-3.result } ≡ filed_by (meaning k bs a) = cc in
+    ap Some same ∙ ap (option_map filed_by) (answer_some k bs a (sym c.in_ok-body.was ∙ c.answer_record.ensures))
