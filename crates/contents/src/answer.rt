@@ -45,4 +45,4 @@ pub struct Answer<L, S> {
 pub type Filed<L> = Answer<L, usize>;
 
 /// An answer to be written, with its steps in a lent list.
-pub type Told<'a, L> = Answer<L, &'a [Step<L>]>;
+pub type WholeAnswer<'a, L> = Answer<L, &'a [Step<L>]>;

@@ -6,7 +6,7 @@ ghost use Rattle.contents.specs.Content.{meant_of};
 ghost use Rattle.contents.specs.Encoding.{form_of, header_record, section_record, estimate_record, answer_record, step_record};
 
 use amounts::cost::{Cost, LabelForm};
-use contents::answer::{Step, Told};
+use contents::answer::{Step, WholeAnswer};
 use networks::estimates::{Estimates, Pair};
 use networks::network::Network;
 use networks::section::Section;
@@ -62,7 +62,7 @@ fn run_number(run: u32) -> u32
     run
 }
 
-pub(crate) fn answer_body<C: Cost>(answer: &Told<'_, C::Label>) -> AnswerRecord
+pub(crate) fn answer_body<C: Cost>(answer: &WholeAnswer<'_, C::Label>) -> AnswerRecord
     requires steps { length answer.now.steps.now < 2 ^ 16 }
     requires taken { answer.now.taken < 2 ^ 16 }
     ensures run { answer.now.run < 2 ^ 32 }

@@ -8,7 +8,7 @@ ghost use Rattle.contents.specs.Writing.{step_good, nothing_at, meant_good, step
 
 use crate::bodies::form_of;
 use amounts::cost::Cost;
-use contents::answer::{Outcome, Step, Told};
+use contents::answer::{Outcome, Step, WholeAnswer};
 use faults::{Fault, Layer, Refusal};
 use networks::network::Network;
 use records::kinds::{AnswerRecord, StepRecord};
@@ -38,7 +38,7 @@ fn nothing_at<C: Cost>(outcome: Outcome, cost: C::Label, steps: usize) -> bool
 }
 
 /// Whether a page can hold an answer, apart from its steps.
-fn meant_good<C: Cost, N: Network<C>>(net: &N, answer: &Told<'_, C::Label>) -> bool
+fn meant_good<C: Cost, N: Network<C>>(net: &N, answer: &WholeAnswer<'_, C::Label>) -> bool
     ensures { result ≡ meant_good C.Cost (N.Network.meaning net.now) (meant_of answer.now) }
 {
     let steps = answer.steps.len();
@@ -76,7 +76,7 @@ fn check_steps<C: Cost, N: Network<C>>(
 pub(crate) fn check_answer<C: Cost, N: Network<C>>(
     net: &N,
     at: usize,
-    answer: &Option<Told<'_, C::Label>>,
+    answer: &Option<WholeAnswer<'_, C::Label>>,
 ) -> Result<(), Fault>
     requires { at < 2 ^ 32 }
     ensures { result_err result ≡ answer_fault C.Cost (N.Network.meaning net.now) at (option_map meant_of answer.now) }

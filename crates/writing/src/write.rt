@@ -12,7 +12,7 @@ use crate::bodies::{answer_body, estimate_row, header_body, section_row, step_ro
 use crate::holds::check_answer;
 use crate::rows::{put, put_run};
 use amounts::cost::Cost;
-use contents::answer::Told;
+use contents::answer::WholeAnswer;
 use faults::{Fault, Layer, Refusal};
 use networks::estimates::Estimates;
 use networks::network::Network;
@@ -21,7 +21,7 @@ use records::kinds::{
 };
 
 /// Where an answer at an offset ends with its steps, as far as a machine number goes.
-fn answer_end<L>(at: usize, answer: &Option<Told<'_, L>>) -> usize
+fn answer_end<L>(at: usize, answer: &Option<WholeAnswer<'_, L>>) -> usize
     ensures { result ≡ placed (at + answer_size (option_map meant_of answer.now)) }
 {
     match answer {
@@ -33,7 +33,7 @@ fn answer_end<L>(at: usize, answer: &Option<Told<'_, L>>) -> usize
 }
 
 /// Puts an answer with its steps, if there is one, on the page from an offset on, and answers where they end.
-fn put_answer<C: Cost>(page: &mut [u8], at: usize, answer: &Option<Told<'_, C::Label>>) -> usize
+fn put_answer<C: Cost>(page: &mut [u8], at: usize, answer: &Option<WholeAnswer<'_, C::Label>>) -> usize
     requires room { at + answer_size (option_map meant_of answer.now) ≤ length page.old }
     requires short { Short (option_map meant_of answer.now) }
     ensures end { result ≡ at + answer_size (option_map meant_of answer.now) }
@@ -57,7 +57,7 @@ fn check_write<C: Cost, N: Network<C>, E: Estimates<C>>(
     room: usize,
     net: &N,
     estimates: &E,
-    answer: &Option<Told<'_, C::Label>>,
+    answer: &Option<WholeAnswer<'_, C::Label>>,
 ) -> Result<(), Fault>
     ensures { result_err result ≡ write_fault C.Cost room (content_by (N.Network.meaning net.now) (E.Estimates.meaning estimates.now) answer.now) }
 {
@@ -80,7 +80,7 @@ fn put_page<C: Cost, N: Network<C>, E: Estimates<C>>(
     page: &mut [u8],
     net: &N,
     estimates: &E,
-    answer: &Option<Told<'_, C::Label>>,
+    answer: &Option<WholeAnswer<'_, C::Label>>,
 ) -> usize
     requires { write_fault C.Cost (length page.old) (content_by (N.Network.meaning net.now) (E.Estimates.meaning estimates.now) answer.now) ≡ None }
     ensures left { record { answer = Ok result; page = page.new } ≡ write_of C.Cost page.old (content_by (N.Network.meaning net.now) (E.Estimates.meaning estimates.now) answer.now) }
@@ -109,7 +109,7 @@ pub fn write<C: Cost, N: Network<C>, E: Estimates<C>>(
     page: &mut [u8],
     net: &N,
     estimates: &E,
-    answer: Option<Told<'_, C::Label>>,
+    answer: Option<WholeAnswer<'_, C::Label>>,
 ) -> Result<usize, Fault>
     ensures left { record { answer = result; page = page.new } ≡ write_of C.Cost page.old (content_by (N.Network.meaning net.now) (E.Estimates.meaning estimates.now) answer.entry) }
     ensures back { elim result [ Ok n ↦ Back C.Cost (content_by (N.Network.meaning net.now) (E.Estimates.meaning estimates.now) answer.entry) (take n page.new) | Err _ ↦ Unit {0} ] }

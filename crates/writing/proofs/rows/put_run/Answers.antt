@@ -11,4 +11,4 @@ loop-k-preserved g c rs made =
     let many = made.many in
     c.put.ensures
     ∙ run_step g.R.Record.shape g.met.R.Record.lawful c.args.page.now c.args.at k rs c.in-Some.body c.loop-k.page _ (c.loop-k.invariant rs made)
-    (sym c.in-Some.is ∙ made.each k _ c.loop-k-test.true c.make.ensures) (omega arith) (rw many c.requires.room) (ap (λ n. c.args.at + n * k) c.size.ensures)
+    (sym c.in-Some.is ∙ made.each k _ c.loop-k-test.true c.make.ensures) (omega arith) (rw many c.requires.room) (ap (λ n. c.args.at + n * k) g.met.R.Record.sized)
