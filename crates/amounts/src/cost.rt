@@ -6,14 +6,14 @@ ghost use Rattle.amounts.specs.declared.cost.SectionForm.{SectionForm};
 ghost use Rattle.amounts.specs.declared.cost.LabelForm.{LabelForm};
 
 /// A section's amount as it stands on a page.
-#[derive(Clone, Copy)]
+#[derive(Clone, Copy, Debug, PartialEq, Eq)]
 pub struct SectionForm {
     pub moves: u16,
     pub samples: u32,
 }
 
 /// Any other amount as it stands on a page, its samples below 2^44.
-#[derive(Clone, Copy)]
+#[derive(Clone, Copy, Debug, PartialEq, Eq)]
 pub struct LabelForm {
     pub moves: u32,
     pub samples: u64,

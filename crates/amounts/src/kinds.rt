@@ -128,7 +128,7 @@ impl Cost for Samples {
 pub struct Moves;
 
 /// An amount in moves and samples, both signed.
-#[derive(Clone, Copy)]
+#[derive(Clone, Copy, Debug, PartialEq, Eq)]
 pub struct MovesLabel {
     pub moves: i64,
     pub samples: i64,

@@ -2,6 +2,7 @@
 use Rattle.std.specs.Prelude.{ℕ, ◌+◌, Bool, true, false, List, [], ◌∷◌, ◌++◌, Ok, Err, codes, decimal, Result}
 use Rattle.faults.specs.declared.Side.{Side}
 use Rattle.faults.specs.declared.Side.TheVariants.{Forward, Backward}
+use Rattle.faults.specs.declared.Layer.{Layer}
 use Rattle.faults.specs.declared.Layer.TheVariants as layer
 use Rattle.faults.specs.declared.Refusal.{Refusal}
 use Rattle.faults.specs.declared.Refusal.TheVariants.{PageEnds, UnexpectedKind, FieldOutOfRange, TrailingBytes, TooFewRows, EstimateCount, Inconsistent, Ended, NotEnded, ListTooShort, PageTooShort, ParameterOutOfRange, ShutInFull, NoSuchSection, ForeignSheet, NotJoined}
@@ -48,9 +49,13 @@ place_of (NoSuchSection n) = n
 place_of (ForeignSheet n) = n
 place_of (NotJoined n) = n
 
+-- a refusal by a layer
+abbrev pub fault_of : Layer → Refusal → Fault
+fault_of l r = record { refusal = r; layer = l }
+
 -- a fault of the network layer
 abbrev pub network_fault : Refusal → Fault
-network_fault r = record { refusal = r; layer = layer.Network }
+network_fault = fault_of layer.Network
 
 -- The value, where every parameter passes its test; else the first one that does not, counted from n.
 abbrev pub ranged_from : {A : Type 0} → ℕ → List Bool → A → Result A Fault

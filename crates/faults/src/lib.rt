@@ -2,13 +2,13 @@
 #![tactic(auto)]
 
 ghost use Rattle.std.specs.Prelude.{◌≡◌, Some};
-ghost use Rattle.faults.specs.Faults.{number_of, place_of, side_number, network_fault, refused_line};
+ghost use Rattle.faults.specs.Faults.{number_of, place_of, side_number, fault_of, network_fault, refused_line};
 ghost use Rattle.faults.specs.declared.Refusal.TheVariants.{ParameterOutOfRange};
 
 use std::fmt;
 
 /// The two ends of a search: forward from the launcher, backward from the trap.
-#[derive(Clone, Copy)]
+#[derive(Clone, Copy, Debug, PartialEq, Eq)]
 pub enum Side {
     Forward,
     Backward,
@@ -27,7 +27,7 @@ impl Side {
 }
 
 /// The layer that turned a call down.
-#[derive(Clone, Copy)]
+#[derive(Clone, Copy, Debug, PartialEq, Eq)]
 pub enum Layer {
     Page,
     Network,
@@ -35,8 +35,20 @@ pub enum Layer {
     Filing,
 }
 
+impl Layer {
+    /// The fault of a call that this layer turns down.
+    pub fn fault(self, refusal: Refusal) -> Fault
+        ensures { result ≡ fault_of self refusal }
+    {
+        Fault {
+            refusal,
+            layer: self,
+        }
+    }
+}
+
 /// Why a call was turned down, a case for each refusal, with its place.
-#[derive(Clone, Copy)]
+#[derive(Clone, Copy, Debug, PartialEq, Eq)]
 pub enum Refusal {
     PageEnds { length: usize },
     UnexpectedKind { offset: usize },
@@ -57,7 +69,7 @@ pub enum Refusal {
 }
 
 /// A refusal and its layer. A caller above passes it on whole.
-#[derive(Clone, Copy)]
+#[derive(Clone, Copy, Debug, PartialEq, Eq)]
 pub struct Fault {
     pub refusal: Refusal,
     pub layer: Layer,
@@ -111,21 +123,11 @@ impl Fault {
     }
 }
 
-/// A fault of the network layer.
-pub fn network_fault(refusal: Refusal) -> Fault
-    ensures { result ≡ network_fault refusal }
-{
-    Fault {
-        refusal,
-        layer: Layer::Network,
-    }
-}
-
 /// The fault of a call's first parameter that breaks its range, counted from 0.
 pub fn out_of_range(parameter: usize) -> Fault
     ensures { result ≡ network_fault (ParameterOutOfRange parameter) }
 {
-    network_fault(Refusal::ParameterOutOfRange { parameter })
+    Layer::Network.fault(Refusal::ParameterOutOfRange { parameter })
 }
 
 /// As every program prints it: `refused`, the number and the place.
