@@ -8,7 +8,7 @@ use crate::network::Network;
 use crate::section::Section;
 use crate::shut_in::{ROOM, ShutIn};
 use amounts::cost::Cost;
-use faults::{Fault, Refusal, network_fault};
+use faults::{Fault, Layer, Refusal, Side};
 
 impl<N> ShutIn<N> {
     /// Shuts nothing yet.
@@ -43,13 +43,13 @@ impl<N> ShutIn<N> {
         ensures below { self.new.below ≡ self.old.below }
     {
         if number >= self.below.sections() {
-            return Err(network_fault(Refusal::NoSuchSection { number }));
+            return Err(Layer::Network.fault(Refusal::NoSuchSection { number }));
         }
         if self.keeps(number) {
             return Ok(());
         }
         if self.count == ROOM {
-            return Err(network_fault(Refusal::ShutInFull { kept: ROOM }));
+            return Err(Layer::Network.fault(Refusal::ShutInFull { kept: ROOM }));
         }
         self.keep(number);
         Ok(())
@@ -112,11 +112,7 @@ impl<C: Cost, N: Network<C>> Network<C> for ShutIn<N> {
         Some(shut_if(section, self.keeps(number)))
     }
 
-    fn leaving(&self, station: usize, k: usize) -> Option<usize> {
-        self.below.leaving(station, k)
-    }
-
-    fn entering(&self, station: usize, k: usize) -> Option<usize> {
-        self.below.entering(station, k)
+    fn touching(&self, side: Side, station: usize, k: usize) -> Option<usize> {
+        self.below.touching(side, station, k)
     }
 }

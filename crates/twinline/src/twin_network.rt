@@ -3,7 +3,6 @@ ghost use Rattle.std.specs.Prelude.{◌≡◌, ◌*◌, ◌<◌, ◌↔◌, [], 
 ghost use Rattle.std.specs.List.{slice_get};
 ghost use Rattle.amounts.specs.Forms.{section_form};
 ghost use Rattle.networks.specs.declared.section.Section.{Section as Part};
-ghost use Rattle.networks.specs.Nets.{Roll, starts, starters};
 ghost use Rattle.twinline.specs.Twin.{line_of, line_drawn, twin_net, numbered as section_by, along as along_of, section_count, end_of, open_section};
 ghost use Rattle.networks.specs.Ranges.{on_ok, between as inside};
 ghost use Rattle.twinline.specs.Drawn.{Drawn};
@@ -188,14 +187,6 @@ impl TwinLine {
             open_section(count + place, place, amount)
         }
     }
-
-    /// The number of the k-th section to which a side comes at the station: one along and one across at most.
-    fn touching<C: Cost>(&self, side: Side, station: usize, k: usize) -> Option<usize>
-        ensures exact { result ≡ slice_get (starters side (twin_net C.Cost.made (line_of self.now)) station) k }
-        ensures roll { Roll (starts side station) (twin_net C.Cost.made (line_of self.now)).sections (starters side (twin_net C.Cost.made (line_of self.now)) station) }
-    {
-        kth(self.along(side, station), self.across(side, station), k)
-    }
 }
 
 impl<C: Cost> Network<C> for TwinLine {
@@ -229,11 +220,8 @@ impl<C: Cost> Network<C> for TwinLine {
         }
     }
 
-    fn leaving(&self, station: usize, k: usize) -> Option<usize> {
-        self.touching::<C>(Side::Forward, station, k)
-    }
-
-    fn entering(&self, station: usize, k: usize) -> Option<usize> {
-        self.touching::<C>(Side::Backward, station, k)
+    /// One along and one across at most.
+    fn touching(&self, side: Side, station: usize, k: usize) -> Option<usize> {
+        kth(self.along(side, station), self.across(side, station), k)
     }
 }

@@ -8,7 +8,7 @@ use Rattle.networks.proofs.Rolls.{roll_of}
 use Rattle.twinline.specs.Twin.{Line, line_of, twin_net, along, numbered, end_of, section_count}
 use Rattle.twinline.proofs.Hits.{both}
 use Rattle.twinline.proofs.Twins.{line_range}
-use Rattle.twinline.proofs.twin_line.TwinLine.touching.Goals as goal
+use Rattle.twinline.proofs.twin_network.TwinLineNetwork.touching.Goals as goal
 
 same : {S : Type 0} (made : SectionForm → S) (t : Line) (side : Side) (station i : ℕ) → starts side station (numbered made t i) ≡ eqb (end_of t side i) station
 same made t Forward station i = refl

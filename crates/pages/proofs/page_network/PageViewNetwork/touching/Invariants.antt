@@ -3,7 +3,7 @@ use Rattle.std.specs.List.{slice_get}
 use Rattle.networks.specs.Nets.{numbers, starts}
 use Rattle.networks.proofs.Numbers.{coming}
 use Rattle.contents.specs.Content.{net_of}
-use Rattle.pages.proofs.view.PageView.scan.Given as goal
+use Rattle.pages.proofs.page_network.PageViewNetwork.touching.Given as goal
 
 -- what is still to come
 abbrev pub invariant-loop-number : goal.invariant-loop-number

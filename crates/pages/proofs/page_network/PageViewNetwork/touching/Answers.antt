@@ -10,8 +10,8 @@ use Rattle.networks.proofs.Rolls.{roll_of}
 use Rattle.contents.specs.Checks.{header_of, section_bytes}
 use Rattle.contents.specs.Content.{section_from, net_of}
 use Rattle.contents.proofs.Mapped.{mapped_some, mapped_none, same_start}
-use Rattle.pages.proofs.view.PageView.scan.Goals as goal
-use Rattle.pages.proofs.view.PageView.scan.Goals.{then-start-station+else-left-eq0, else-start-station}
+use Rattle.pages.proofs.page_network.PageViewNetwork.touching.Goals as goal
+use Rattle.pages.proofs.page_network.PageViewNetwork.touching.Goals.{then-start-station+else-left-eq0, else-start-station}
 
 pub loop-number-preserved : goal.loop-number-preserved
 loop-number-preserved g c =
