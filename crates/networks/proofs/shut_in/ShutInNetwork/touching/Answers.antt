@@ -2,7 +2,7 @@ use Rattle.std.proofs.Common.{sym, ap, ◌∙◌}
 use Rattle.std.specs.List.{slice_get}
 use Rattle.networks.proofs.Rolls.{roll_of}
 use Rattle.networks.proofs.Shutting.{numbers_shut}
-use Rattle.networks.proofs.shut_network.ShutInNetwork.touching.Goals as goal
+use Rattle.networks.proofs.shut_in.ShutInNetwork.touching.Goals as goal
 
 pub returns : goal.returns
 returns g c = record {
