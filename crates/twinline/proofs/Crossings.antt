@@ -1,11 +1,11 @@
 -- Which sections of a twin line go across at a station.
-use Rattle.std.proofs.Common.{◌≡◌, ℕ, ◌+◌, ◌-◌, ◌*◌, ◌/◌, ◌%◌, ◌<◌, ◌≤◌, Bool, true, false, cond, not, Some, None, Option, sym, ap, ◌∙◌, ⊎_elim, div-add-mod', le-div_iff_mul-le, arith}
+use Rattle.std.proofs.Common.{◌≡◌, ℕ, ◌+◌, ◌-◌, ◌*◌, ◌/◌, ◌%◌, ◌<◌, ◌≤◌, Bool, true, false, cond, Some, None, Option, sym, ap, ◌∙◌, ⊎_elim, div-add-mod', le-div_iff_mul-le, arith}
 use native.Mathlib.Nat.{div-eq_of_eq-mul_left, mul-mod_left}
 use Rattle.std.proofs.lemmas.Bool.{le-ltb, eq-eqb, ne_eqb, eqb-true, eqb-false, cases_Bool}
 use Rattle.std.proofs.lemmas.Bool.Decides.{nat_tests}
 use Rattle.faults.specs.declared.Side.{Side}
 use Rattle.faults.specs.declared.Side.TheVariants.{Forward, Backward}
-use Rattle.twinline.specs.Touching.{Only, Crossing, is_forward}
+use Rattle.twinline.specs.Touching.{Only, Crossing, same_side}
 use Rattle.twinline.specs.Twin.{Line, LineRange, along, section_count, end_of, cross_place, cross_down}
 use Rattle.twinline.proofs.Twins.{place_within}
 
@@ -64,7 +64,7 @@ module _ (t : Line) (r : LineRange t) where
   on_line m h = place_within t r (m - 2 * along t) (omega arith)
 
   module _ (station : ℕ) (o : Option ℕ) where
-    pub across_upper : (side : Side) → station < t.count → Crossing t station (is_forward side) o → Only (end_of t side) station (2 * along t) (section_count t) o
+    pub across_upper : (side : Side) → station < t.count → Crossing t station (same_side side Forward) o → Only (end_of t side) station (2 * along t) (section_count t) o
     across_upper Forward l x = record {
       here = λ m e. let h = x.here m e in (h.0, h.1, from_across m h.0 ∙ ap (λ b. cond b (cross_place t m) (t.count + cross_place t m)) h.3 ∙ h.2);
       alone = λ m lo hi v.
@@ -78,7 +78,7 @@ module _ (t : Line) (r : LineRange t) where
           ⊎_elim (λ e. absurd (omega (arith, c true e))) (λ e. x.alone m lo hi (c false e) e) (cases_Bool (cross_down t m));
     }
 
-    pub across_lower : (side : Side) → t.count ≤ station → Crossing t (station - t.count) (not (is_forward side)) o → Only (end_of t side) station (2 * along t) (section_count t) o
+    pub across_lower : (side : Side) → t.count ≤ station → Crossing t (station - t.count) (same_side side Backward) o → Only (end_of t side) station (2 * along t) (section_count t) o
     across_lower Forward l x = record {
       here = λ m e. let h = x.here m e in (h.0, h.1, from_across m h.0 ∙ ap (λ b. cond b (cross_place t m) (t.count + cross_place t m)) h.3 ∙ omega (arith, h.2));
       alone = λ m lo hi v.

@@ -10,9 +10,8 @@ use Rattle.faults.specs.declared.Side.{Side}
 use Rattle.faults.specs.declared.Side.TheVariants.{Forward, Backward}
 use Rattle.twinline.specs.declared.drawing.Drawing.{Drawing}
 use Rattle.networks.specs.declared.section.Section.{Section}
-use Rattle.twinline.specs.declared.twin_line.TwinLine.{TwinLine}
 use Rattle.networks.specs.Nets.{Net}
-use Rattle.networks.specs.Ranges.{between}
+use Rattle.std.specs.Int.{is_in_range}
 
 -- From the drawing ---------------------------------------------------------------------------
 
@@ -29,14 +28,11 @@ pub record LineRange (l : Line) : Type 0 where
   pub spaced : (1 ≤ l.spacing) × (l.spacing ≤ 2048)
   pub fit : (l.upper < 2 ^ 32) × (l.lower < 2 ^ 32) × (l.crossover < 2 ^ 32)
 
-abbrev pub line_of : TwinLine → Line
-line_of t = record { count = t.count; spacing = t.spacing; upper = t.upper; lower = t.lower; crossover = t.crossover }
-
 -- the parameters in their order: count, spacing, upper, lower, crossover, rate
 abbrev pub line_drawn : Drawing → Result Line Fault
 line_drawn d =
     ranged
-    (between 1 2048 d.count ∷ between 1 2048 d.spacing ∷ length_fits d.upper ∷ length_fits d.lower ∷ length_fits d.crossover ∷ rate_fits d.rate ∷ [])
+    (is_in_range 1 2048 d.count ∷ is_in_range 1 2048 d.spacing ∷ length_fits d.upper ∷ length_fits d.lower ∷ length_fits d.crossover ∷ rate_fits d.rate ∷ [])
     (record {
       count = d.count;
       spacing = d.spacing;

@@ -3,4 +3,3 @@
 
 pub mod drawing;
 pub mod twin_line;
-pub mod twin_network;
