@@ -2,6 +2,7 @@
 use Rattle.std.proofs.Common.{◌≡◌, ℕ, ◌+◌, ◌-◌, ◌*◌, ◌/◌, ◌%◌, ◌<◌, ◌≤◌, Bool, true, false, cond, Some, None, Option, sym, ap, ◌∙◌, ⊎_elim, div-add-mod', le-div_iff_mul-le, arith}
 use native.Mathlib.Nat.{div-eq_of_eq-mul_left, mul-mod_left}
 use Rattle.std.proofs.lemmas.Bool.{le-ltb, eq-eqb, ne_eqb, eqb-true, eqb-false, cases_Bool}
+use Rattle.std.proofs.lemmas.Option.{none-some, same_Some}
 use Rattle.std.proofs.lemmas.Bool.Decides.{nat_tests}
 use Rattle.faults.specs.declared.Side.{Side}
 use Rattle.faults.specs.declared.Side.TheVariants.{Forward, Backward}
@@ -13,7 +14,7 @@ module _ (t : Line) (r : LineRange t) (place : ℕ) where
   -- where the place is no multiple of the spacing, nothing crosses
   pub cross_none : (down : Bool) → (place % t.spacing ≡ 0 → ⊥) → Crossing t place down None
   cross_none down h = record {
-    here = λ m e. let z : ◌≡◌ {A = ℕ} 0 1 = cc in absurd (omega arith);
+    here = λ m e. absurd (none-some m e);
     alone = λ m lo hi at' way. absurd (h (ap (λ p. p % t.spacing) (sym at') ∙ mul-mod_left ((m - 2 * along t) / 2) t.spacing));
   }
 
@@ -37,7 +38,7 @@ module _ (t : Line) (r : LineRange t) (place : ℕ) where
     pub cross_at_down : Crossing t place true (Some (2 * along t + 2 * q))
     cross_at_down = record {
       here = λ m e.
-          let x : m ≡ 2 * along t + 2 * q = cc in
+          let x : m ≡ 2 * along t + 2 * q = sym (same_Some _ _ e) in
           let j : (m - 2 * along t) / 2 ≡ q = omega arith in
           (omega arith, omega (arith, few), ap (λ n. n * k) j ∙ back, eq-eqb _ _ (omega arith));
       alone = λ m lo hi at' way. ap Some (omega (arith, quotient m at', eqb-true _ _ way));
@@ -46,7 +47,7 @@ module _ (t : Line) (r : LineRange t) (place : ℕ) where
     pub cross_at_up : Crossing t place false (Some (2 * along t + 2 * q + 1))
     cross_at_up = record {
       here = λ m e.
-          let x : m ≡ 2 * along t + 2 * q + 1 = cc in
+          let x : m ≡ 2 * along t + 2 * q + 1 = sym (same_Some _ _ e) in
           let j : (m - 2 * along t) / 2 ≡ q = omega arith in
           (omega arith, omega (arith, few), ap (λ n. n * k) j ∙ back, ne_eqb _ _ (λ z. omega arith));
       alone = λ m lo hi at' way. ap Some (omega (arith, quotient m at', eqb-false _ _ way));
@@ -96,10 +97,10 @@ module _ (t : Line) (r : LineRange t) where
 
   pub across_none : (side : Side) (station : ℕ) → 2 * t.count ≤ station → Only (end_of t side) station (2 * along t) (section_count t) None
   across_none Forward station l = record {
-    here = λ m e. let z : ◌≡◌ {A = ℕ} 0 1 = cc in absurd (omega arith);
+    here = λ m e. absurd (none-some m e);
     alone = λ m lo hi v. let p = on_line m hi in let f = from_across m lo in absurd (grind (arith, nat_tests));
   }
   across_none Backward station l = record {
-    here = λ m e. let z : ◌≡◌ {A = ℕ} 0 1 = cc in absurd (omega arith);
+    here = λ m e. absurd (none-some m e);
     alone = λ m lo hi v. let p = on_line m hi in let f = to_across m lo in absurd (grind (arith, nat_tests));
   }

@@ -4,11 +4,10 @@ ghost use Rattle.std.specs.List.{slice_get};
 ghost use Rattle.faults.specs.Faults.{ranged_from};
 ghost use Rattle.amounts.specs.Forms.{section_form};
 ghost use Rattle.networks.specs.declared.section.Section.{Section as Part};
-ghost use Rattle.twinline.specs.Twin.{Line, LineRange, line_drawn, twin_net, numbered as section_by, along as along_of, section_count, end_of, open_section};
+ghost use Rattle.twinline.specs.Twin.{Line, LineRange, line, line_drawn, twin_net, numbered as section_by, along as along_of, section_count, end_of, open_section};
 ghost use Rattle.twinline.specs.Drawn.{Drawn};
 ghost use Rattle.twinline.specs.Touching.{Only, Crossing, or_none};
 
-use crate::drawing::Drawing;
 use amounts::cost::{Cost, SectionForm};
 use amounts::sampling::{length_fits, rate_fits, samples_of};
 use faults::{Fault, Side, out_of_range};
@@ -18,6 +17,17 @@ use std::marker::Model;
 
 /// The most stations a pipe, and the widest spacing.
 pub const LONGEST_PIPE: usize = 2048;
+
+/// What a drawing says: stations a pipe, the spacing of the crossovers in stations, lengths in millimetres, and samples per metre.
+#[derive(Clone, Copy)]
+pub struct Drawing {
+    pub count: usize,
+    pub spacing: usize,
+    pub upper: u64,
+    pub lower: u64,
+    pub crossover: u64,
+    pub rate: u64,
+}
 
 /// Stations a pipe, the spacing of the crossovers, and the samples of each sort of section.
 #[derive(Clone, Copy)]
@@ -32,9 +42,9 @@ pub struct TwinLine {
 impl Model for TwinLine {
     ghost Value = { Line };
 
-    ghost view = { λ t. record { count = t.count; spacing = t.spacing; upper = t.upper; lower = t.lower; crossover = t.crossover } };
+    ghost view = { λ t. line t.count t.spacing t.upper t.lower t.crossover };
 
-    ghost invariant = { λ t. LineRange (record { count = t.count; spacing = t.spacing; upper = t.upper; lower = t.lower; crossover = t.crossover }) };
+    ghost invariant = { λ t. LineRange (line t.count t.spacing t.upper t.lower t.crossover) };
 
     ghost inverse = { λ l. record { count = l.count; spacing = l.spacing; upper = l.upper; lower = l.lower; crossover = l.crossover } };
 }
@@ -60,11 +70,7 @@ fn amount<C: Cost>(moves: u16, samples: u32) -> C::Section
 fn kth(first: Option<usize>, second: Option<usize>, k: usize) -> Option<usize>
     ensures { result ≡ slice_get (or_none first (or_none second [])) k }
 {
-    match (first, k) {
-        (Some(number), 0) => Some(number),
-        (Some(_), 1) | (None, 0) => second,
-        _ => None,
-    }
+    first.into_iter().chain(second).nth(k)
 }
 
 /// The fault of the numbered parameter, where it does not fit.

@@ -1,5 +1,4 @@
-use Rattle.std.proofs.Common.{◌≡◌, ℕ, ◌*◌, eqb, sym, refl, ap, ◌∙◌, arith}
-use Rattle.std.specs.List.{slice_get}
+use Rattle.std.proofs.Common.{◌≡◌, ℕ, ◌*◌, eqb, refl, arith}
 use Rattle.amounts.specs.declared.cost.SectionForm.{SectionForm}
 use Rattle.faults.specs.declared.Side.{Side}
 use Rattle.faults.specs.declared.Side.TheVariants.{Forward, Backward}
@@ -20,6 +19,6 @@ returns g c =
     let side = c.args.side in
     let station = c.args.station in
     record {
-      exact = c.kth.ensures ∙ sym (ap (λ l. slice_get l c.args.k) (both (starts side station) (numbered made t) (end_of t side) station (same made t side station) (2 * along t) (section_count t) c.along.result c.across.result (omega arith) c.along.ensures c.across.ensures));
+      exact = rw (both (starts side station) (numbered made t) (end_of t side) station (same made t side station) (2 * along t) (section_count t) _ _ (omega arith) c.along.ensures c.across.ensures) c.kth.ensures;
       roll = roll_of (starts side station) (twin_net made t).sections;
     }
