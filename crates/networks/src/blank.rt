@@ -11,7 +11,7 @@ use std::marker::Model;
 pub const MOST_STATIONS: usize = 4096;
 
 /// Zero for each of so many stations.
-#[derive(Clone, Copy)]
+#[derive(Clone, Copy, Debug, PartialEq, Eq)]
 pub struct Blank {
     count: usize,
 }

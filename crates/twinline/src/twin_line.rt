@@ -19,7 +19,7 @@ use std::marker::Model;
 pub const LONGEST_PIPE: usize = 2048;
 
 /// What a drawing says: stations a pipe, the spacing of the crossovers in stations, lengths in millimetres, and samples per metre.
-#[derive(Clone, Copy)]
+#[derive(Clone, Copy, Debug, PartialEq, Eq)]
 pub struct Drawing {
     pub count: usize,
     pub spacing: usize,
@@ -30,7 +30,7 @@ pub struct Drawing {
 }
 
 /// Stations a pipe, the spacing of the crossovers, and the samples of each sort of section.
-#[derive(Clone, Copy)]
+#[derive(Clone, Copy, Debug, PartialEq, Eq)]
 pub struct TwinLine {
     count: usize,
     spacing: usize,
