@@ -1,11 +1,10 @@
 //! The lines that are printed.
 ghost use Rattle.std.specs.Prelude.{◌≡◌, ◌++◌, IfOk, string_bytes, OnOk};
-ghost use Rattle.twin.specs.Report.{heading_line, section_line, report_of, usage_line, refusal, answer_of};
+ghost use Rattle.twin.specs.Report.{heading_line, section_line, report_of, answer_of};
 
 use crate::asked::{Asked, Kind};
 use amounts::cost::{Cost, SectionForm};
 use amounts::kinds::{Moves, Samples};
-use faults::Fault;
 use networks::network::Network;
 use networks::section::Section;
 use std::alloc::{AllocError, Global};
@@ -59,29 +58,15 @@ fn report<C: Cost, N: Network<C>>(heap: Global, net: &N) -> Result<String, Alloc
     Ok(out)
 }
 
-/// How to ask.
-fn usage(heap: Global) -> Result<String, AllocError>
-    ensures { IfOk result (λ s. string_bytes s ≡ usage_line) }
-{
-    format!(in heap; "usage: twin KIND COUNT SPACING UPPER LOWER CROSSOVER RATE\n")
-}
-
-/// A refusal's line.
-fn refused(heap: Global, fault: Fault) -> Result<String, AllocError>
-    ensures { IfOk result (λ s. string_bytes s ≡ refusal fault) }
-{
-    format!(in heap; "{fault}\n")
-}
-
 /// What is printed for the words: the twin line, its refusal, or how to ask.
 pub fn answer(heap: Global, asked: Option<Asked>) -> Result<String, AllocError>
     ensures { IfOk result (λ s. string_bytes s ≡ answer_of asked) }
 {
     let Some(asked) = asked else {
-        return usage(heap);
+        return format!(in heap; "usage: twin KIND COUNT SPACING UPPER LOWER CROSSOVER RATE\n");
     };
     match TwinLine::new(asked.drawing) {
-        Err(fault) => refused(heap, fault),
+        Err(fault) => format!(in heap; "{fault}\n"),
         Ok(line) => match asked.kind {
             Kind::Samples => report::<Samples, TwinLine>(heap, &line),
             Kind::Moves => report::<Moves, TwinLine>(heap, &line),
