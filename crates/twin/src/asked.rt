@@ -45,6 +45,7 @@ impl Asked {
             return None;
         };
         let kind = Kind::try_from(kind).ok()?;
+        // Kept: a usize has 64 bits here, and try_from would add a refusal that no word meets.
         let drawing = Drawing {
             count: count as usize,
             spacing: spacing as usize,

@@ -118,24 +118,11 @@ impl TwinLine {
     {
         let count = self.count;
         match side {
-            Side::Forward => {
-                if station < count - 1 {
-                    Some(station)
-                } else if station >= count && station < 2 * count - 1 {
-                    Some(station - 1)
-                } else {
-                    None
-                }
-            }
-            Side::Backward => {
-                if station > 0 && station < count {
-                    Some(station - 1)
-                } else if station > count && station < 2 * count {
-                    Some(station - 2)
-                } else {
-                    None
-                }
-            }
+            Side::Forward if station < count - 1 => Some(station),
+            Side::Forward if (count..2 * count - 1).contains(&station) => Some(station - 1),
+            Side::Backward if (1..count).contains(&station) => Some(station - 1),
+            Side::Backward if (count + 1..2 * count).contains(&station) => Some(station - 2),
+            _ => None,
         }
     }
 
