@@ -1,14 +1,13 @@
 //! The twin line of 3 stations a pipe, spacing 2, 1,000, 500 and 125 mm at 256, and layers over it.
 use amounts::cost::Cost;
 use amounts::kinds::{Moves, Samples};
-use faults::Fault;
+use faults::{Fault, Layer, Refusal, Side, out_of_range};
 use networks::blank::Blank;
-use networks::estimates::Estimates;
+use networks::estimates::{Estimates, Pair};
 use networks::network::Network;
 use networks::shut_in::ShutIn;
 use std::test::Fail;
-use twinline::drawing::Drawing;
-use twinline::twin_line::TwinLine;
+use twinline::twin_line::{Drawing, TwinLine};
 
 fn drawing(count: usize, spacing: usize, rate: u64) -> Drawing {
     Drawing {
@@ -21,19 +20,12 @@ fn drawing(count: usize, spacing: usize, rate: u64) -> Drawing {
     }
 }
 
-/// Number and place, so that a fault can be compared.
-fn refusal<T: Drop>(answer: Result<T, Fault>) -> Option<(u8, usize)> {
-    match answer {
-        Ok(_) => None,
-        Err(fault) => Some((fault.number(), fault.place())),
-    }
+fn line(count: usize, spacing: usize) -> Result<TwinLine, Fail> {
+    TwinLine::new(drawing(count, spacing, 256)).map_err(|_| Fail::new("refused"))
 }
 
-fn line(count: usize, spacing: usize) -> Result<TwinLine, Fail> {
-    match TwinLine::new(drawing(count, spacing, 256)) {
-        Ok(line) => Ok(line),
-        Err(_) => Err(Fail::new("refused")),
-    }
+fn no_such_section(number: usize) -> Fault {
+    Layer::Network.fault(Refusal::NoSuchSection { number })
 }
 
 /// From, to, moves and samples of an open section.
@@ -85,27 +77,37 @@ fn sections_at_a_station(rt: HostRuntime) -> Result<(), Fail> {
     Ok(())
 }
 
+/// The numbers of the first three sections to which a side comes at the station.
+fn touching<N: Network<Samples>>(net: &N, side: Side, station: usize) -> [Option<usize>; 3] {
+    [0, 1, 2].map(|k| net.touching(side, station, k))
+}
+
+#[test]
+fn sections_by_side(rt: HostRuntime) -> Result<(), Fail> {
+    let mut net = ShutIn::new(line(3, 2)?);
+    assert_eq!(rt; net.shut::<Samples>(4), Ok(()));
+    assert_eq!(rt; touching(&net, Side::Forward, 0), [Some(0), Some(4), None]);
+    assert_eq!(rt; touching(&net, Side::Backward, 5), [Some(3), Some(6), None]);
+    assert_eq!(rt; touching(&&net, Side::Backward, 4), [Some(2), None, None]);
+    assert_eq!(rt; touching(&net, Side::Backward, 6), [None, None, None]);
+    Ok(())
+}
+
 #[test]
 fn drawings_out_of_range(rt: HostRuntime) {
-    assert_eq!(rt; refusal(TwinLine::new(drawing(0, 2, 256))), Some((12, 0)));
-    assert_eq!(rt;
-        refusal(TwinLine::new(drawing(2_049, 0, 256))),
-        Some((12, 0))
-    );
-    assert_eq!(rt;
-        refusal(TwinLine::new(drawing(3, 2_049, 256))),
-        Some((12, 1))
-    );
-    assert_eq!(rt; refusal(TwinLine::new(drawing(3, 2, 257))), Some((12, 5)));
-    assert_eq!(rt; refusal(TwinLine::new(drawing(2_048, 2_048, 512))), None);
+    assert_eq!(rt; TwinLine::new(drawing(0, 2, 256)), Err(out_of_range(0)));
+    assert_eq!(rt; TwinLine::new(drawing(2_049, 0, 256)), Err(out_of_range(0)));
+    assert_eq!(rt; TwinLine::new(drawing(3, 2_049, 256)), Err(out_of_range(1)));
+    assert_eq!(rt; TwinLine::new(drawing(3, 2, 257)), Err(out_of_range(5)));
+    assert!(rt; TwinLine::new(drawing(2_048, 2_048, 512)).is_ok());
 }
 
 #[test]
 fn shut_sections(rt: HostRuntime) -> Result<(), Fail> {
     let mut net = ShutIn::new(line(3, 2)?);
-    assert_eq!(rt; refusal(net.shut::<Samples>(8)), Some((14, 8)));
-    assert_eq!(rt; refusal(net.shut::<Samples>(4)), None);
-    assert_eq!(rt; refusal(net.shut::<Samples>(4)), None);
+    assert_eq!(rt; net.shut::<Samples>(8), Err(no_such_section(8)));
+    assert_eq!(rt; net.shut::<Samples>(4), Ok(()));
+    assert_eq!(rt; net.shut::<Samples>(4), Ok(()));
     assert_eq!(rt; open::<Samples, ShutIn<TwinLine>>(&net, 4), None);
     assert_eq!(rt;
         open::<Samples, ShutIn<TwinLine>>(&net, 5),
@@ -118,29 +120,31 @@ fn shut_sections(rt: HostRuntime) -> Result<(), Fail> {
 #[test]
 fn a_full_layer(rt: HostRuntime) -> Result<(), Fail> {
     let mut net = ShutIn::new(line(40, 1)?);
+    let full = Layer::Network.fault(Refusal::ShutInFull { kept: 64 });
     for number in 0..64 {
-        assert_eq!(rt; refusal(net.shut::<Samples>(number)), None);
+        assert_eq!(rt; net.shut::<Samples>(number), Ok(()));
     }
-    assert_eq!(rt; refusal(net.shut::<Samples>(64)), Some((13, 64)));
-    assert_eq!(rt; refusal(net.shut::<Samples>(63)), None);
-    assert_eq!(rt; refusal(net.shut::<Samples>(158)), Some((14, 158)));
+    assert_eq!(rt; net.shut::<Samples>(64), Err(full));
+    assert_eq!(rt; net.shut::<Samples>(63), Ok(()));
+    assert_eq!(rt; net.shut::<Samples>(158), Err(no_such_section(158)));
     Ok(())
 }
 
 #[test]
 fn blank_estimates(rt: HostRuntime) -> Result<(), Fail> {
-    assert_eq!(rt; refusal(Blank::new(0)), Some((12, 0)));
-    assert_eq!(rt; refusal(Blank::new(4_097)), Some((12, 0)));
+    assert_eq!(rt; Blank::new(0), Err(out_of_range(0)));
+    assert_eq!(rt; Blank::new(4_097), Err(out_of_range(0)));
     let Ok(blank) = Blank::new(4_096) else {
         return Err(Fail::new("refused"));
     };
     assert_eq!(rt; <Blank as Estimates<Samples>>::count(&blank), 4_096);
-    assert!(rt; <Blank as Estimates<Samples>>::pair(&blank, 4_096).is_none());
-    match <Blank as Estimates<Samples>>::pair(&blank, 4_095) {
-        Some(pair) => {
-            assert_eq!(rt; (pair.forward, pair.backward), (0, 0));
-            Ok(())
-        },
-        None => Err(Fail::new("absent")),
-    }
+    assert_eq!(rt; <Blank as Estimates<Samples>>::pair(&blank, 4_096), None);
+    assert_eq!(rt;
+        <Blank as Estimates<Samples>>::pair(&blank, 4_095),
+        Some(Pair {
+            forward: 0,
+            backward: 0
+        })
+    );
+    Ok(())
 }

@@ -1,4 +1,3 @@
 pub mod Numbers
 pub mod Rolls
-pub mod Kept
 pub mod Shutting

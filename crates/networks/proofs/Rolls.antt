@@ -1,15 +1,13 @@
 -- The numbers of the elements that pass are a roll: rising, nothing else, complete.
-use Rattle.std.proofs.Common.{◌≡◌, ℕ, zero, suc, ◌+◌, ◌<◌, ◌≤◌, Bool, true, false, cond, List, [], ◌∷◌, Some, None, sym, refl, ap, ◌∙◌, zero-add, arith}
+use Rattle.std.proofs.Common.{◌≡◌, ℕ, zero, suc, ◌+◌, ◌<◌, ◌≤◌, Bool, true, false, cond, List, [], ◌∷◌, Some, sym, refl, ap, ◌∙◌, zero-add, arith}
+use Rattle.std.proofs.lemmas.Option.{none-some}
 use Rattle.std.specs.List.{slice_get}
 use Rattle.networks.specs.Nets.{numbers, Roll}
-
-nothing_at_lem : {A : Type 0} {a : A} → None ≡ Some a → ⊥
-nothing_at_lem e = let z : ◌≡◌ {A = ℕ} 0 1 = cc in omega arith
 
 module _ {X : Type 0} (test : X → Bool) where
   -- what passes from n on has a number from n on
   above : (n i m : ℕ) (xs : List X) → slice_get (numbers test n xs) i ≡ Some m → n ≤ m
-  above n i m [] e = absurd (nothing_at_lem e)
+  above n i m [] e = absurd (none-some _ e)
   above n i m (x ∷ xs) e = go (λ j. above (n + 1) j m xs) (test x) i e
     where
       go : ((j : ℕ) → slice_get (numbers test (n + 1) xs) j ≡ Some m → n + 1 ≤ m) → (b : Bool) (j : ℕ) → slice_get (cond b (n ∷ numbers test (n + 1) xs) (numbers test (n + 1) xs)) j ≡ Some m → n ≤ m
@@ -18,7 +16,7 @@ module _ {X : Type 0} (test : X → Bool) where
       go h false j e = omega (arith, h j e)
 
   rises : (n i j l m : ℕ) (xs : List X) → i < j → slice_get (numbers test n xs) i ≡ Some l → slice_get (numbers test n xs) j ≡ Some m → l < m
-  rises n i j l m [] k e f = absurd (nothing_at_lem e)
+  rises n i j l m [] k e f = absurd (none-some _ e)
   rises n i j l m (x ∷ xs) k e f = go (λ a b. rises (n + 1) a b l m xs) (test x) i j k e f
     where
       go : ((a b : ℕ) → a < b → slice_get (numbers test (n + 1) xs) a ≡ Some l → slice_get (numbers test (n + 1) xs) b ≡ Some m → l < m) → (t : Bool) (a b : ℕ) → a < b → slice_get (cond t (n ∷ numbers test (n + 1) xs) (numbers test (n + 1) xs)) a ≡ Some l → slice_get (cond t (n ∷ numbers test (n + 1) xs) (numbers test (n + 1) xs)) b ≡ Some m → l < m
@@ -37,7 +35,7 @@ module _ {X : Type 0} (test : X → Bool) where
     pub passes : test element ≡ true
 
   passing : (n i m : ℕ) (xs : List X) → slice_get (numbers test n xs) i ≡ Some m → Passing xs n m
-  passing n i m [] e = absurd (nothing_at_lem e)
+  passing n i m [] e = absurd (none-some _ e)
   passing n i m (x ∷ xs) e = go (λ j. passing (n + 1) j m xs) (test x) refl i e
     where
       later : Passing xs (n + 1) m → Passing (x ∷ xs) n m
@@ -49,7 +47,7 @@ module _ {X : Type 0} (test : X → Bool) where
       go h false t j e = later (h j e)
 
   found : (n k : ℕ) (x : X) (xs : List X) → slice_get xs k ≡ Some x → test x ≡ true → (i : ℕ) × (slice_get (numbers test n xs) i ≡ Some (n + k))
-  found n k x [] e t = absurd (nothing_at_lem e)
+  found n k x [] e t = absurd (none-some _ e)
   found n zero x (y ∷ ys) e t =
       let z : x ≡ y = cc in
       (0, ap (λ b. slice_get (cond b (n ∷ numbers test (n + 1) ys) (numbers test (n + 1) ys)) 0) (ap test (sym z) ∙ t) ∙ ap Some (omega arith))

@@ -1,12 +1,12 @@
 -- What a network with sections shut keeps of the one below.
 use Rattle.std.proofs.Common.{◌≡◌, ℕ, zero, suc, ◌+◌, Bool, cond, List, [], ◌∷◌, length, Some, refl, ap, ◌∙◌, arith}
 use Rattle.std.specs.List.{AllByRecursion, slice_get}
+use Rattle.std.specs.Option.{option_map}
 use Rattle.amounts.specs.declared.cost.SectionForm.{SectionForm}
 use Rattle.faults.specs.declared.Side.{Side}
 use Rattle.faults.specs.declared.Side.TheVariants.{Forward, Backward}
 use Rattle.networks.specs.declared.section.Section.{Section}
 use Rattle.networks.specs.Nets.{Net, SectionInRange, InRange, numbers, starts}
-use Rattle.networks.specs.Ranges.{on_some}
 use Rattle.networks.specs.Shut.{has, shut_if, shut_from, shut_in}
 
 module _ {A : Type 0} (kept : List ℕ) where
@@ -25,12 +25,12 @@ module _ {A : Type 0} (kept : List ℕ) where
       ∙ ap (λ l. cond (starts side station s) (m ∷ l) l) (numbers_shut side station (m + 1) (n + 1) ss)
 
   -- the numbered section is the one below, and shut too where its number is kept
-  nth_from : (n i j : ℕ) (ss : List (Section A)) → n + i ≡ j → slice_get (shut_from kept n ss) i ≡ on_some (shut_if (has kept j)) (slice_get ss i)
+  nth_from : (n i j : ℕ) (ss : List (Section A)) → n + i ≡ j → slice_get (shut_from kept n ss) i ≡ option_map (shut_if (has kept j)) (slice_get ss i)
   nth_from n i j [] e = refl
   nth_from n zero j (s ∷ ss) e = let k : n ≡ j = omega arith in ap (λ m. Some (shut_if (has kept m) s)) k
   nth_from n (suc i) j (s ∷ ss) e = nth_from (n + 1) i j ss (omega arith)
 
-  pub nth_shut : (i : ℕ) (ss : List (Section A)) → slice_get (shut_from kept 0 ss) i ≡ on_some (shut_if (has kept i)) (slice_get ss i)
+  pub nth_shut : (i : ℕ) (ss : List (Section A)) → slice_get (shut_from kept 0 ss) i ≡ option_map (shut_if (has kept i)) (slice_get ss i)
   nth_shut i ss = nth_from 0 i i ss (omega arith)
 
   within_shut : (parts : A → SectionForm) (stations n : ℕ) (ss : List (Section A)) → AllByRecursion (SectionInRange parts stations) ss → AllByRecursion (SectionInRange parts stations) (shut_from kept n ss)

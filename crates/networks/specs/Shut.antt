@@ -1,21 +1,16 @@
 -- A network with some sections shut.
-use Rattle.std.specs.Prelude.{ℕ, ◌+◌, Bool, false, cond, ◌||◌, List, [], ◌∷◌, ◌++◌, length, take, Ok, Err, Result, ◌==◌, nat_lt}
+use Rattle.std.specs.Prelude.{ℕ, ◌+◌, Bool, cond, ◌||◌, List, [], ◌∷◌, ◌++◌, length, Ok, Err, Result, ◌==◌, nat_lt}
+use Rattle.std.specs.List.{list_any}
 use Rattle.faults.specs.Faults.{network_fault}
 use Rattle.faults.specs.declared.Fault.{Fault}
 use Rattle.faults.specs.declared.Refusal.{Refusal}
 use Rattle.faults.specs.declared.Refusal.TheVariants.{ShutInFull, NoSuchSection}
 use Rattle.networks.specs.declared.section.Section.{Section}
-use Rattle.networks.specs.declared.shut_in.ShutIn.{ShutIn}
 use Rattle.networks.specs.Nets.{Net}
-
--- the numbers that a shut-in network keeps
-abbrev pub kept_of : {N : Type 0} → ShutIn N → List ℕ
-kept_of s = take s.count s.kept
 
 -- whether n is among the numbers
 abbrev pub has : List ℕ → ℕ → Bool
-has [] n = false
-has (k ∷ ks) n = k == n || has ks n
+has kept n = list_any (λ k. k == n) kept
 
 -- the section, shut where b says so
 abbrev pub shut_if : {S : Type 0} → Bool → Section S → Section S

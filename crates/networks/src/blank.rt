@@ -1,9 +1,58 @@
 //! Estimates that say nothing: zero both ways.
-ghost use Rattle.std.specs.Prelude.{◌≤◌};
+ghost use Rattle.std.specs.Prelude.{◌≡◌, ℕ, ◌≤◌};
+ghost use Rattle.networks.specs.Blanks.{blank_answer, blank_pairs};
+
+use crate::estimates::{Estimates, Pair};
+use amounts::cost::Cost;
+use faults::{Fault, out_of_range};
+use std::marker::Model;
+
+/// The most stations of a network.
+pub const MOST_STATIONS: usize = 4096;
 
 /// Zero for each of so many stations.
-#[derive(Clone, Copy)]
+#[derive(Clone, Copy, Debug, PartialEq, Eq)]
 pub struct Blank {
-    pub(crate) count: usize,
-    ghost within: { (1 ≤ count) × (count ≤ 4096) },
+    count: usize,
+}
+
+impl Model for Blank {
+    ghost Value = { ℕ };
+
+    ghost view = { λ b. b.count };
+
+    ghost invariant = { λ b. (1 ≤ b.count) × (b.count ≤ 4096) };
+
+    ghost inverse = { λ count. record { count = count } };
+}
+
+impl Blank {
+    /// Blank estimates for 1 to 4,096 stations.
+    pub fn new(count: usize) -> Result<Blank, Fault>
+        ensures { result ≡ blank_answer count }
+    {
+        if !(1..=MOST_STATIONS).contains(&count) {
+            return Err(out_of_range(0));
+        }
+        Ok(Blank { count })
+    }
+}
+
+impl<C: Cost> Estimates<C> for Blank {
+    ghost meaning = { blank_pairs C.Cost.ops };
+
+    fn count(&self) -> usize {
+        self.count
+    }
+
+    fn pair(&self, station: usize) -> Option<Pair<C::Label>> {
+        if station < self.count {
+            Some(Pair {
+                forward: C::ZERO,
+                backward: C::ZERO,
+            })
+        } else {
+            None
+        }
+    }
 }

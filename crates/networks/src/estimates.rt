@@ -7,7 +7,7 @@ ghost use Rattle.networks.specs.Given.{GivenInRange};
 use amounts::cost::Cost;
 
 /// A station's estimates: of the way on to the trap, and of the way from the launcher.
-#[derive(Clone, Copy)]
+#[derive(Clone, Copy, Debug, PartialEq, Eq)]
 pub struct Pair<L> {
     pub forward: L,
     pub backward: L,

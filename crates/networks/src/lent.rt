@@ -3,6 +3,7 @@ use crate::estimates::{Estimates, Pair};
 use crate::network::Network;
 use crate::section::Section;
 use amounts::cost::Cost;
+use faults::Side;
 
 impl<'a, C: Cost, N: Network<C>> Network<C> for &'a N {
     ghost meaning = { λ n. N.Network.meaning n.now };
@@ -27,12 +28,8 @@ impl<'a, C: Cost, N: Network<C>> Network<C> for &'a N {
         N::section(*self, number)
     }
 
-    fn leaving(&self, station: usize, k: usize) -> Option<usize> {
-        N::leaving(*self, station, k)
-    }
-
-    fn entering(&self, station: usize, k: usize) -> Option<usize> {
-        N::entering(*self, station, k)
+    fn touching(&self, side: Side, station: usize, k: usize) -> Option<usize> {
+        N::touching(*self, side, station, k)
     }
 }
 

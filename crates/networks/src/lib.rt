@@ -2,10 +2,8 @@
 #![tactic(auto)]
 
 pub mod blank;
-pub mod blank_estimates;
 pub mod estimates;
 pub mod lent;
 pub mod network;
 pub mod section;
 pub mod shut_in;
-pub mod shut_network;

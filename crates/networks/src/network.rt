@@ -6,6 +6,7 @@ ghost use Rattle.networks.specs.Nets.{Net, InRange, Roll, starts, starters};
 
 use crate::section::Section;
 use amounts::cost::Cost;
+use faults::Side;
 
 /// Every answer is the meaning's; no question refuses or changes it.
 pub trait Network<C: Cost> {
@@ -29,14 +30,25 @@ pub trait Network<C: Cost> {
     fn section(&self, number: usize) -> Option<Section<C::Section>>
         ensures exact { result ≡ slice_get (meaning self.now).sections number };
 
-    /// The number of the k-th section that leaves the station, from 0 and in rising number, shut ones too.
-    /// The list asked is rising, has every section that leaves, and no other.
+    /// The number of the k-th section to which a side comes at the station, from 0 and in rising number, shut ones too.
+    /// The list asked is rising, has every such section, and no other.
+    fn touching(&self, side: Side, station: usize, k: usize) -> Option<usize>
+        ensures exact { result ≡ slice_get (starters side (meaning self.now) station) k }
+        ensures roll { Roll (starts side station) (meaning self.now).sections (starters side (meaning self.now) station) };
+
+    /// The number of the k-th section that leaves the station.
     fn leaving(&self, station: usize, k: usize) -> Option<usize>
         ensures exact { result ≡ slice_get (starters Forward (meaning self.now) station) k }
-        ensures roll { Roll (starts Forward station) (meaning self.now).sections (starters Forward (meaning self.now) station) };
+        ensures roll { Roll (starts Forward station) (meaning self.now).sections (starters Forward (meaning self.now) station) }
+    {
+        self.touching(Side::Forward, station, k)
+    }
 
-    /// The same of those that enter it.
+    /// The number of the k-th section that enters it.
     fn entering(&self, station: usize, k: usize) -> Option<usize>
         ensures exact { result ≡ slice_get (starters Backward (meaning self.now) station) k }
-        ensures roll { Roll (starts Backward station) (meaning self.now).sections (starters Backward (meaning self.now) station) };
+        ensures roll { Roll (starts Backward station) (meaning self.now).sections (starters Backward (meaning self.now) station) }
+    {
+        self.touching(Side::Backward, station, k)
+    }
 }

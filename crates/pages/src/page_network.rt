@@ -3,7 +3,6 @@ ghost use Rattle.std.specs.Prelude.{◌≡◌, ◌+◌, ◌*◌, ◌≤◌, leng
 ghost use Rattle.std.specs.List.{slice_get};
 ghost use Rattle.records.specs.Layout.{section_shape, estimate_shape};
 ghost use Rattle.records.specs.Shapes.{size_of, decoded_run};
-ghost use Rattle.networks.specs.Nets.{Roll, starts, starters};
 ghost use Rattle.contents.specs.Checks.{header_of, section_bytes, estimate_bytes};
 ghost use Rattle.contents.specs.Content.{start_of, from_of, to_of, section_from, label_from, pair_from, net_of, pairs_of};
 
@@ -62,26 +61,6 @@ fn pair_from<C: Cost>(body: EstimateRecord) -> Pair<C::Label>
 }
 
 impl<C: Cost> PageView<'_, C> {
-    /// The number of the k-th section to which a side comes at the station, by a scan.
-    fn scan(&self, side: Side, station: usize, k: usize) -> Option<usize>
-        ensures exact { result ≡ slice_get (starters side (net_of C.Cost self.now.bytes.now) station) k }
-        ensures roll { Roll (starts side station) (net_of C.Cost self.now.bytes.now).sections (starters side (net_of C.Cost self.now.bytes.now) station) }
-    {
-        let mut left = k;
-        for number in 0..usize::from(self.header.sections) {
-            let Some(body) = self.section_record(number) else {
-                return None;
-            };
-            if start(&body, side) == station {
-                if left == 0 {
-                    return Some(number);
-                }
-                left -= 1;
-            }
-        }
-        None
-    }
-
     /// Where a section goes from and to; 0 where there is none.
     pub(crate) fn ends(&self, number: usize) -> (usize, usize)
         ensures { result ≡ (from_of (slice_get (net_of C.Cost self.now.bytes.now).sections number), to_of (slice_get (net_of C.Cost self.now.bytes.now).sections number)) }
@@ -144,12 +123,21 @@ impl<'a, C: Cost> Network<C> for PageView<'a, C> {
         Some(section_from::<C>(self.section_record(number)?))
     }
 
-    fn leaving(&self, station: usize, k: usize) -> Option<usize> {
-        self.scan(Side::Forward, station, k)
-    }
-
-    fn entering(&self, station: usize, k: usize) -> Option<usize> {
-        self.scan(Side::Backward, station, k)
+    /// By a scan of the sections.
+    fn touching(&self, side: Side, station: usize, k: usize) -> Option<usize> {
+        let mut left = k;
+        for number in 0..usize::from(self.header.sections) {
+            let Some(body) = self.section_record(number) else {
+                return None;
+            };
+            if start(&body, side) == station {
+                if left == 0 {
+                    return Some(number);
+                }
+                left -= 1;
+            }
+        }
+        None
     }
 }
 

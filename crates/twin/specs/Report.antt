@@ -1,13 +1,13 @@
 -- What the program prints.
 use Rattle.std.specs.Prelude.{ℕ, ◌+◌, cond, List, [], ◌∷◌, ◌++◌, length, Some, None, Ok, Err, codes, decimal, Option, Result, ◌==◌, slice_index_or}
+use Rattle.std.specs.Option.{option_map}
 use Rattle.faults.specs.Faults.{refused_line}
 use Rattle.amounts.specs.Kinds.{samples_parts, samples_made}
 use Rattle.amounts.specs.declared.cost.SectionForm.{SectionForm}
 use Rattle.faults.specs.declared.Fault.{Fault}
 use Rattle.networks.specs.Nets.{Net}
-use Rattle.networks.specs.Ranges.{on_some}
 use Rattle.twinline.specs.Twin.{Line, line_drawn, twin_net}
-use Rattle.twinline.specs.declared.drawing.Drawing.{Drawing}
+use Rattle.twinline.specs.declared.twin_line.Drawing.{Drawing}
 use Rattle.networks.specs.declared.section.Section.{Section}
 use Rattle.twin.specs.declared.asked.Asked.{Asked}
 use Rattle.twin.specs.declared.asked.Kind.{Kind}
@@ -24,7 +24,7 @@ abbrev pub asked_by : List ℕ → Option Asked
 asked_by words =
     let word : ℕ → ℕ = λ i. slice_index_or words i 0 in
     let drawing : Drawing = record { count = word 1; spacing = word 2; upper = word 3; lower = word 4; crossover = word 5; rate = word 6 } in
-    cond (length words == 7) (on_some (λ k. record { kind = k; drawing = drawing }) (kind_by (word 0))) None
+    cond (length words == 7) (option_map (λ k. record { kind = k; drawing = drawing }) (kind_by (word 0))) None
 
 -- What is printed ----------------------------------------------------------------------------
 

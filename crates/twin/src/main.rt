@@ -21,10 +21,7 @@ fn numbers(rt: &HostRuntime) -> anyhow::Result<Option<Vec<u64>>> {
 }
 
 fn run(rt: &HostRuntime) -> anyhow::Result<()> {
-    let asked = match numbers(rt)? {
-        Some(numbers) => Asked::by(numbers.as_slice()),
-        None => None,
-    };
+    let asked = numbers(rt)?.and_then(|numbers| Asked::by(numbers.as_slice()));
     rt.print(answer(rt.alloc(), asked)?)?;
     Ok(())
 }

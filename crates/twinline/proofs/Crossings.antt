@@ -1,11 +1,12 @@
 -- Which sections of a twin line go across at a station.
-use Rattle.std.proofs.Common.{◌≡◌, ℕ, ◌+◌, ◌-◌, ◌*◌, ◌/◌, ◌%◌, ◌<◌, ◌≤◌, Bool, true, false, cond, not, Some, None, Option, sym, ap, ◌∙◌, ⊎_elim, div-add-mod', le-div_iff_mul-le, arith}
+use Rattle.std.proofs.Common.{◌≡◌, ℕ, ◌+◌, ◌-◌, ◌*◌, ◌/◌, ◌%◌, ◌<◌, ◌≤◌, Bool, true, false, cond, Some, None, Option, sym, ap, ◌∙◌, ⊎_elim, div-add-mod', le-div_iff_mul-le, arith}
 use native.Mathlib.Nat.{div-eq_of_eq-mul_left, mul-mod_left}
 use Rattle.std.proofs.lemmas.Bool.{le-ltb, eq-eqb, ne_eqb, eqb-true, eqb-false, cases_Bool}
+use Rattle.std.proofs.lemmas.Option.{none-some, same_Some}
 use Rattle.std.proofs.lemmas.Bool.Decides.{nat_tests}
 use Rattle.faults.specs.declared.Side.{Side}
 use Rattle.faults.specs.declared.Side.TheVariants.{Forward, Backward}
-use Rattle.twinline.specs.Touching.{Only, Crossing, is_forward}
+use Rattle.twinline.specs.Touching.{Only, Crossing, same_side}
 use Rattle.twinline.specs.Twin.{Line, LineRange, along, section_count, end_of, cross_place, cross_down}
 use Rattle.twinline.proofs.Twins.{place_within}
 
@@ -13,7 +14,7 @@ module _ (t : Line) (r : LineRange t) (place : ℕ) where
   -- where the place is no multiple of the spacing, nothing crosses
   pub cross_none : (down : Bool) → (place % t.spacing ≡ 0 → ⊥) → Crossing t place down None
   cross_none down h = record {
-    here = λ m e. let z : ◌≡◌ {A = ℕ} 0 1 = cc in absurd (omega arith);
+    here = λ m e. absurd (none-some m e);
     alone = λ m lo hi at' way. absurd (h (ap (λ p. p % t.spacing) (sym at') ∙ mul-mod_left ((m - 2 * along t) / 2) t.spacing));
   }
 
@@ -37,7 +38,7 @@ module _ (t : Line) (r : LineRange t) (place : ℕ) where
     pub cross_at_down : Crossing t place true (Some (2 * along t + 2 * q))
     cross_at_down = record {
       here = λ m e.
-          let x : m ≡ 2 * along t + 2 * q = cc in
+          let x : m ≡ 2 * along t + 2 * q = sym (same_Some _ _ e) in
           let j : (m - 2 * along t) / 2 ≡ q = omega arith in
           (omega arith, omega (arith, few), ap (λ n. n * k) j ∙ back, eq-eqb _ _ (omega arith));
       alone = λ m lo hi at' way. ap Some (omega (arith, quotient m at', eqb-true _ _ way));
@@ -46,7 +47,7 @@ module _ (t : Line) (r : LineRange t) (place : ℕ) where
     pub cross_at_up : Crossing t place false (Some (2 * along t + 2 * q + 1))
     cross_at_up = record {
       here = λ m e.
-          let x : m ≡ 2 * along t + 2 * q + 1 = cc in
+          let x : m ≡ 2 * along t + 2 * q + 1 = sym (same_Some _ _ e) in
           let j : (m - 2 * along t) / 2 ≡ q = omega arith in
           (omega arith, omega (arith, few), ap (λ n. n * k) j ∙ back, ne_eqb _ _ (λ z. omega arith));
       alone = λ m lo hi at' way. ap Some (omega (arith, quotient m at', eqb-false _ _ way));
@@ -64,7 +65,7 @@ module _ (t : Line) (r : LineRange t) where
   on_line m h = place_within t r (m - 2 * along t) (omega arith)
 
   module _ (station : ℕ) (o : Option ℕ) where
-    pub across_upper : (side : Side) → station < t.count → Crossing t station (is_forward side) o → Only (end_of t side) station (2 * along t) (section_count t) o
+    pub across_upper : (side : Side) → station < t.count → Crossing t station (same_side side Forward) o → Only (end_of t side) station (2 * along t) (section_count t) o
     across_upper Forward l x = record {
       here = λ m e. let h = x.here m e in (h.0, h.1, from_across m h.0 ∙ ap (λ b. cond b (cross_place t m) (t.count + cross_place t m)) h.3 ∙ h.2);
       alone = λ m lo hi v.
@@ -78,7 +79,7 @@ module _ (t : Line) (r : LineRange t) where
           ⊎_elim (λ e. absurd (omega (arith, c true e))) (λ e. x.alone m lo hi (c false e) e) (cases_Bool (cross_down t m));
     }
 
-    pub across_lower : (side : Side) → t.count ≤ station → Crossing t (station - t.count) (not (is_forward side)) o → Only (end_of t side) station (2 * along t) (section_count t) o
+    pub across_lower : (side : Side) → t.count ≤ station → Crossing t (station - t.count) (same_side side Backward) o → Only (end_of t side) station (2 * along t) (section_count t) o
     across_lower Forward l x = record {
       here = λ m e. let h = x.here m e in (h.0, h.1, from_across m h.0 ∙ ap (λ b. cond b (cross_place t m) (t.count + cross_place t m)) h.3 ∙ omega (arith, h.2));
       alone = λ m lo hi v.
@@ -96,10 +97,10 @@ module _ (t : Line) (r : LineRange t) where
 
   pub across_none : (side : Side) (station : ℕ) → 2 * t.count ≤ station → Only (end_of t side) station (2 * along t) (section_count t) None
   across_none Forward station l = record {
-    here = λ m e. let z : ◌≡◌ {A = ℕ} 0 1 = cc in absurd (omega arith);
+    here = λ m e. absurd (none-some m e);
     alone = λ m lo hi v. let p = on_line m hi in let f = from_across m lo in absurd (grind (arith, nat_tests));
   }
   across_none Backward station l = record {
-    here = λ m e. let z : ◌≡◌ {A = ℕ} 0 1 = cc in absurd (omega arith);
+    here = λ m e. absurd (none-some m e);
     alone = λ m lo hi v. let p = on_line m hi in let f = to_across m lo in absurd (grind (arith, nat_tests));
   }

@@ -1,6 +1,7 @@
 -- What is worked out by number is what is drawn.
 use Rattle.std.proofs.Common.{◌≡◌, ℕ, ◌+◌, ◌-◌, ◌*◌, ◌/◌, ◌%◌, ◌<◌, ◌≤◌, ◌↔◌, Some, None, sym, refl, ap, ◌∙◌, subst, subst₂, ⊎_elim, le-div_iff_mul-le, arith}
 use Rattle.std.proofs.lemmas.Bool.{lt-ltb, le-ltb, eq-eqb, ne_eqb, cases_lt, cases_eq}
+use Rattle.std.proofs.lemmas.Option.{none-some, same_Some}
 use Rattle.amounts.specs.Forms.{section_form}
 use Rattle.amounts.specs.declared.cost.SectionForm.{SectionForm}
 use Rattle.networks.specs.declared.section.Section.{Section}
@@ -64,12 +65,12 @@ module _ {S : Type 0} (made : SectionForm → S) (t : Line) (r : LineRange t) wh
   -- what Section answers, there and beyond
   pub drawn_here : (n : ℕ) → n < section_count t → (s : Section S) → (Some (numbered made t n) ≡ Some s) ↔ Drawn made t n s
   drawn_here n h s = (
-    λ e. let f : numbered made t n ≡ s = cc in subst (Drawn made t n) f (drawn_at n h),
+    λ e. subst (Drawn made t n) (same_Some _ _ e) (drawn_at n h),
     λ d. ap Some (at_drawn n s d).1,
   )
 
   pub drawn_past : (n : ℕ) → section_count t ≤ n → (s : Section S) → (None ≡ Some s) ↔ Drawn made t n s
   drawn_past n h s = (
-    λ e. let z : ◌≡◌ {A = ℕ} 0 1 = cc in absurd (omega arith),
+    λ e. absurd (none-some s e),
     λ d. absurd (omega (arith, (at_drawn n s d).0)),
   )

@@ -1,12 +1,11 @@
 -- The numbers of a worked-out list's elements that pass, where each stretch has one at most.
-use Rattle.std.proofs.Common.{◌≡◌, ℕ, zero, suc, ◌+◌, ◌-◌, ◌≤◌, Bool, true, false, cond, eqb, ◌⊎◌, List, [], ◌∷◌, map, Some, None, Option, sym, refl, ap, ◌∙◌, subst, inl, inr, ⊎_elim, arith}
+use Rattle.std.proofs.Common.{◌≡◌, ℕ, zero, suc, ◌+◌, ◌-◌, ◌≤◌, Bool, true, false, cond, eqb, List, [], ◌∷◌, map, Some, None, Option, sym, refl, ap, ◌∙◌, subst, ⊎_elim, arith}
 use Rattle.std.specs.List.{range_with_len}
-use Rattle.std.proofs.lemmas.Bool.{eqb-true, eqb-false, cases_Bool, cases_lt}
+use Rattle.std.proofs.lemmas.Bool.{eqb-true, eqb-false, cases_Bool}
+use Rattle.std.proofs.lemmas.Option.{none-some, same_Some}
+use Rattle.std.proofs.Math.Nat.{eq-or-lt_of_le}
 use Rattle.networks.specs.Nets.{numbers}
 use Rattle.twinline.specs.Touching.{Only, or_none}
-
-at_or_past : (a m : ℕ) → a ≤ m → (a ≡ m) ⊎ (a + 1 ≤ m)
-at_or_past a m h = ⊎_elim (λ l. inr (omega arith)) (λ l. inl (omega arith)) (cases_lt a m)
 
 module _ {X : Type 0} (test : X → Bool) (f : ℕ → X) (value : ℕ → ℕ) (s : ℕ) (same : (i : ℕ) → test (f i) ≡ eqb (value i) s) where
   abbrev pub hits : ℕ → ℕ → List ℕ
@@ -27,14 +26,14 @@ module _ {X : Type 0} (test : X → Bool) (f : ℕ → X) (value : ℕ → ℕ) 
       let v : value a ≡ s = eqb-true _ _ (sym (same a) ∙ e) in
       let here : o ≡ Some a = x.alone a (omega arith) (omega arith) v in
       let none : Only value s (a + 1) (a + 1 + n) None = record {
-        here = λ m z. absurd (let y : ◌≡◌ {A = ℕ} 0 1 = cc in omega arith);
-        alone = λ m lo hi w. let p : o ≡ Some m = x.alone m (omega arith) (omega arith) w in let q : a ≡ m = cc in absurd (omega arith);
+        here = λ m z. absurd (none-some m z);
+        alone = λ m lo hi w. let p : o ≡ Some m = x.alone m (omega arith) (omega arith) w in let q : a ≡ m = same_Some a m (sym here ∙ p) in absurd (omega arith);
       } in
       headed true e ∙ ap (λ r. a ∷ r) (front n (a + 1) N None (omega arith) none ∙ moved None) ∙ ap (λ p. or_none p (hits (a + suc n) (suc N - suc n))) (sym here))
       (λ e.
       let v : value a ≡ s → ⊥ = eqb-false _ _ (sym (same a) ∙ e) in
       let later : Only value s (a + 1) (a + 1 + n) o = record {
-        here = λ m z. let h = x.here m z in (⊎_elim {C = a + 1 ≤ m} (λ q. absurd (v (ap value q ∙ h.2))) (λ q. q) (at_or_past a m h.0), omega arith, h.2);
+        here = λ m z. let h = x.here m z in (⊎_elim {C = a + 1 ≤ m} (λ q. absurd (v (ap value q ∙ h.2))) (λ q. omega arith) (eq-or-lt_of_le h.0), omega arith, h.2);
         alone = λ m lo hi w. x.alone m (omega arith) (omega arith) w;
       } in
       headed false e ∙ front n (a + 1) N o (omega arith) later ∙ moved o)

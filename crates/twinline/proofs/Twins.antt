@@ -1,21 +1,18 @@
 -- The twin line's sections: where they are, and that they are in range.
-use Rattle.std.proofs.Common.{◌≡◌, ℕ, zero, suc, ◌+◌, ◌-◌, ◌*◌, ◌/◌, ◌<◌, ◌≤◌, ltb, map, length, Some, None, sym, ap, ◌∙◌, le-div_iff_mul-le, div-le_self, arith, lit<}
+use Rattle.std.proofs.Common.{◌≡◌, ℕ, zero, suc, ◌+◌, ◌-◌, ◌*◌, ◌/◌, ◌<◌, ◌≤◌, ltb, map, Some, None, sym, le-div_iff_mul-le, div-le_self, arith, lit<}
 use Rattle.std.specs.List.{range_with_len, AllByRecursion, slice_get}
 use Rattle.std.proofs.lemmas.List.FromFn.{length-map-range_with_len, get_or-map-range_with_len}
-use Rattle.std.proofs.lemmas.Option.{slice_get-get_or, slice_get_past}
+use Rattle.std.proofs.lemmas.Option.{slice_get_read, slice_get_past}
 use Rattle.std.proofs.lemmas.Bool.{cond_both}
 use Rattle.std.proofs.lemmas.Bool.Decides.{nat_tests}
-use Rattle.twinline.specs.declared.twin_line.TwinLine.{TwinLine}
 use Rattle.networks.specs.Nets.{SectionInRange, InRange}
 use Rattle.amounts.specs.Forms.{SectionRange, section_form}
 use Rattle.amounts.specs.declared.cost.SectionForm.{SectionForm}
-use Rattle.twinline.specs.Twin.{Line, LineRange, line_of, along, section_count, amount_of, numbered, twin_net, cross_place}
+use Rattle.twinline.specs.Twin.{Line, LineRange, along, section_count, amount_of, numbered, twin_net, cross_place}
 
 module _ {X : Type 0} (f : ℕ → X) where
   pub nth_counting : (n i : ℕ) → i < n → Some (f i) ≡ slice_get (map f (range_with_len 0 n)) i
-  nth_counting n i h =
-      let k : i < length (map f (range_with_len 0 n)) = rw (length-map-range_with_len f 0 n) h in
-      ap Some (sym (get_or-map-range_with_len f 0 n i i (f i) h (omega arith))) ∙ sym (slice_get-get_or (map f (range_with_len 0 n)) i (f i) k)
+  nth_counting n i h = sym (slice_get_read (map f (range_with_len 0 n)) n i (f i) (sym (length-map-range_with_len f 0 n)) h (sym (get_or-map-range_with_len f 0 n i i (f i) h (omega arith))))
 
   pub nth_counting_past : (n i : ℕ) → n ≤ i → None ≡ slice_get (map f (range_with_len 0 n)) i
   nth_counting_past n i h = sym (slice_get_past (map f (range_with_len 0 n)) i (rw (length-map-range_with_len f 0 n) h))
@@ -23,9 +20,6 @@ module _ {X : Type 0} (f : ℕ → X) where
   pub all_counting : (P : X → Type 0) (a n : ℕ) → ((i : ℕ) → a ≤ i → i < a + n → P (f i)) → AllByRecursion P (map f (range_with_len a n))
   all_counting P a zero h = tt
   all_counting P a (suc n) h = (h a (omega arith) (omega arith), all_counting P (a + 1) n (λ i l m. h i (omega arith) (omega arith)))
-
-pub line_range : (t : TwinLine) → LineRange (line_of t)
-line_range t = record { counted = t.counted; spaced = t.spaced; fit = t.fit }
 
 module _ (t : Line) (r : LineRange t) where
   -- a crossing's place is on the line

@@ -8,11 +8,10 @@ use Rattle.amounts.specs.declared.cost.SectionForm.{SectionForm}
 use Rattle.faults.specs.declared.Fault.{Fault}
 use Rattle.faults.specs.declared.Side.{Side}
 use Rattle.faults.specs.declared.Side.TheVariants.{Forward, Backward}
-use Rattle.twinline.specs.declared.drawing.Drawing.{Drawing}
+use Rattle.twinline.specs.declared.twin_line.Drawing.{Drawing}
 use Rattle.networks.specs.declared.section.Section.{Section}
-use Rattle.twinline.specs.declared.twin_line.TwinLine.{TwinLine}
 use Rattle.networks.specs.Nets.{Net}
-use Rattle.networks.specs.Ranges.{between}
+use Rattle.std.specs.Int.{is_in_range}
 
 -- From the drawing ---------------------------------------------------------------------------
 
@@ -24,26 +23,20 @@ pub record Line : Type 0 where
   pub lower : ℕ
   pub crossover : ℕ
 
+abbrev pub line : ℕ → ℕ → ℕ → ℕ → ℕ → Line
+line c s u l x = record { count = c; spacing = s; upper = u; lower = l; crossover = x }
+
 pub record LineRange (l : Line) : Type 0 where
   pub counted : (1 ≤ l.count) × (l.count ≤ 2048)
   pub spaced : (1 ≤ l.spacing) × (l.spacing ≤ 2048)
   pub fit : (l.upper < 2 ^ 32) × (l.lower < 2 ^ 32) × (l.crossover < 2 ^ 32)
 
-abbrev pub line_of : TwinLine → Line
-line_of t = record { count = t.count; spacing = t.spacing; upper = t.upper; lower = t.lower; crossover = t.crossover }
-
 -- the parameters in their order: count, spacing, upper, lower, crossover, rate
 abbrev pub line_drawn : Drawing → Result Line Fault
 line_drawn d =
     ranged
-    (between 1 2048 d.count ∷ between 1 2048 d.spacing ∷ length_fits d.upper ∷ length_fits d.lower ∷ length_fits d.crossover ∷ rate_fits d.rate ∷ [])
-    (record {
-      count = d.count;
-      spacing = d.spacing;
-      upper = samples_in d.upper d.rate;
-      lower = samples_in d.lower d.rate;
-      crossover = samples_in d.crossover d.rate;
-    })
+    (is_in_range 1 2048 d.count ∷ is_in_range 1 2048 d.spacing ∷ length_fits d.upper ∷ length_fits d.lower ∷ length_fits d.crossover ∷ rate_fits d.rate ∷ [])
+    (line d.count d.spacing (samples_in d.upper d.rate) (samples_in d.lower d.rate) (samples_in d.crossover d.rate))
 
 -- By number ----------------------------------------------------------------------------------
 

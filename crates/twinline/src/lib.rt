@@ -1,6 +1,4 @@
 //! A line of two parallel pipes with crossovers, as a network.
 #![tactic(auto)]
 
-pub mod drawing;
 pub mod twin_line;
-pub mod twin_network;

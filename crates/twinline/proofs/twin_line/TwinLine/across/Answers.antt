@@ -1,17 +1,15 @@
-use Rattle.twinline.specs.Twin.{line_of}
-use Rattle.twinline.proofs.Twins.{line_range}
 use Rattle.twinline.proofs.Crossings.{across_upper, across_lower, across_none}
 use Rattle.twinline.proofs.twin_line.TwinLine.across.Goals as goal
 
 pub returns-then-station-self : goal.returns-then-station-self
 returns-then-station-self c =
     let x = c.crossing.ensures in
-    across_upper (line_of c.args.self.now) (line_range c.args.self.now) c.args.station c.crossing.result c.args.side c.if-station-self.true (rw c.is_forward.ensures at x)
+    rw (← c.self.view_is) (across_upper _ c.self.invariant c.args.station _ c.args.side c.if-station-self.true (rw (← c.self.view_is, c.eq.ensures) at x))
 
 pub returns-then-station-self-2 : goal.returns-then-station-self-2
 returns-then-station-self-2 c =
     let x = c.crossing-then-station-self-2.ensures in
-    across_lower (line_of c.args.self.now) (line_range c.args.self.now) c.args.station c.crossing-then-station-self-2.result c.args.side c.if-station-self.false (rw c.is_forward-then-station-self-2.ensures at x)
+    rw (← c.self.view_is) (across_lower _ c.self.invariant c.args.station _ c.args.side c.if-station-self.false (rw (← c.self.view_is, c.eq-then-station-self-2.ensures) at x))
 
 pub returns-else-station-self-2 : goal.returns-else-station-self-2
-returns-else-station-self-2 c = across_none (line_of c.args.self.now) (line_range c.args.self.now) c.args.side c.args.station c.if-station-self-2.false
+returns-else-station-self-2 c = rw (← c.self.view_is) (across_none _ c.self.invariant c.args.side c.args.station c.if-station-self-2.false)

@@ -1,9 +1,0 @@
-use Rattle.std.proofs.Common.{sym, ◌∙◌}
-use Rattle.networks.specs.Shut.{kept_of}
-use Rattle.networks.proofs.Shutting.{length-shut}
-use Rattle.networks.proofs.shut_network.ShutInNetwork.sections.Goals as goal
-
-pub returns : goal.returns
-returns g c =
-    let s = c.args.self.now in
-    c.sections.ensures ∙ sym (length-shut (kept_of s) 0 (g.N.Network.meaning s.below).sections)
