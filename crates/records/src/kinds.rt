@@ -220,8 +220,7 @@ impl Record<{ AnswerRecord::SIZE }> for AnswerRecord {
             && label_fits(limits.kind, self.cost)
             && self.steps <= MOST_STEPS
             && self.taken < limits.stations
-            && (self.outcome == 0
-                || self.cost.moves == 0 && self.cost.samples == 0 && self.steps == 0)
+            && (self.outcome == 0 || self.cost == LabelForm::default() && self.steps == 0)
     }
 
     fn bytes(&self) -> [u8; AnswerRecord::SIZE] {

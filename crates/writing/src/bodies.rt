@@ -19,10 +19,7 @@ use std::marker::PhantomData;
 pub(crate) fn form_of<C: Cost>(amount: C::Label) -> LabelForm
     ensures { result ≡ form_of C.Cost amount }
 {
-    C::shown(amount).unwrap_or(LabelForm {
-        moves: 0,
-        samples: 0,
-    })
+    C::shown(amount).unwrap_or_default()
 }
 
 pub(crate) fn header_body<C: Cost, N: Network<C>>(net: &N) -> HeaderRecord
