@@ -1,6 +1,7 @@
 -- Lists of records seen through what they tell.
 use Rattle.std.proofs.Common.{◌≡◌, ℕ, zero, suc, eqb, List, [], ◌∷◌, map, Some, None, sym, refl, ap, ◌∙◌, subst}
 use Rattle.std.specs.List.{AllByRecursion, slice_get}
+use Rattle.std.proofs.lemmas.Option.{slice_get-map}
 use Rattle.faults.specs.declared.Side.{Side}
 use Rattle.faults.specs.declared.Side.TheVariants.{Forward, Backward}
 use Rattle.amounts.specs.declared.cost.Cost as cost
@@ -9,17 +10,12 @@ use Rattle.std.specs.Option.{option_map}
 use Rattle.records.specs.declared.kinds.SectionRecord.{SectionRecord}
 use Rattle.contents.specs.Content.{start_of, section_from}
 
-pub nth-map : {X Y : Type 0} (f : X → Y) (xs : List X) (i : ℕ) → slice_get (map f xs) i ≡ option_map f (slice_get xs i)
-nth-map f [] i = refl
-nth-map f (x ∷ xs) zero = refl
-nth-map f (x ∷ xs) (suc i) = nth-map f xs i
-
 -- an element that is there, or not, seen through f
 pub mapped_some : {X Y : Type 0} (f : X → Y) (xs : List X) (i : ℕ) (x : X) → Some x ≡ slice_get xs i → Some (f x) ≡ slice_get (map f xs) i
-mapped_some f xs i x e = ap (option_map f) e ∙ sym (nth-map f xs i)
+mapped_some f xs i x e = ap (option_map f) e ∙ sym (slice_get-map f xs i)
 
 pub mapped_none : {X Y : Type 0} (f : X → Y) (xs : List X) (i : ℕ) → None ≡ slice_get xs i → None ≡ slice_get (map f xs) i
-mapped_none f xs i e = ap (option_map f) e ∙ sym (nth-map f xs i)
+mapped_none f xs i e = ap (option_map f) e ∙ sym (slice_get-map f xs i)
 
 -- what holds of each element
 pub all_nth : {X : Type 0} (P : X → Type 0) (xs : List X) (i : ℕ) (x : X) → Some x ≡ slice_get xs i → AllByRecursion P xs → P x

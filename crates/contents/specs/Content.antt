@@ -21,13 +21,9 @@ use Rattle.contents.specs.declared.answer.Step.{Step}
 use Rattle.contents.specs.declared.answer.Answer.{Answer}
 use Rattle.contents.specs.Checks.{header_of, section_bytes, estimate_bytes, answer_bytes, has_answer, step_bytes}
 
--- an answer: the run, how it ended, the cost, the stations taken, and the steps
-pub record Meant (L : Type 0) : Type 0 where
-  pub run : ℕ
-  pub outcome : Outcome
-  pub cost : L
-  pub taken : ℕ
-  pub steps : List (Step L)
+-- an answer with its steps in a list
+abbrev pub Meant : Type 0 → Type 0
+Meant L = Answer L (List (Step L))
 
 pub record Content (L S : Type 0) : Type 0 where
   pub network : Net S

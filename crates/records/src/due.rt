@@ -49,7 +49,9 @@ impl<'a> Rest<'a> {
         let ends = Layer::Page.fault(Refusal::PageEnds {
             length: self.length,
         });
-        let kind = self.bytes.first().ok_or(ends)?;
+        let [kind, ..] = self.bytes else {
+            return Err(ends);
+        };
         if *kind != R::KIND {
             return Err(Layer::Page.fault(Refusal::UnexpectedKind { offset }));
         }

@@ -11,7 +11,7 @@ use amounts::cost::{LabelForm, SectionForm};
 /// The body of an S record.
 #[derive(Clone, Copy)]
 pub struct SectionRecord {
-    // Kept: (a) the page's own byte, 0 or 1 or worse, which `keeps` judges after it is read.
+    // Kept: a number, the page's own byte, 0 or 1 or worse, which `keeps` judges after it is read.
     pub state: u8,
     pub from: u16,
     pub to: u16,
@@ -66,7 +66,7 @@ impl Record<{ SectionRecord::SIZE }> for SectionRecord {
 /// The body of an H record.
 #[derive(Clone, Copy)]
 pub struct HeaderRecord {
-    // Kept: (a) the page's own byte, of any kind, which `keeps` judges after it is read.
+    // Kept: a number, the page's own byte, of any kind, which `keeps` judges after it is read.
     pub kind: u8,
     pub stations: u16,
     pub sections: u16,
@@ -148,12 +148,15 @@ impl Record<{ EstimateRecord::SIZE }> for EstimateRecord {
     const KIND: u8 = 0x45;
 
     fn front(bytes: &[u8]) -> Option<EstimateRecord> {
-        let (_, rest) = bytes.split_first()?;
-        let (forward, rest) = rest.split_first_chunk()?;
-        let (backward, _) = rest.split_first_chunk()?;
+        let [_, m3, m2, m1, m0, s5, s4, s3, s2, s1, s0, rest @ ..] = bytes else {
+            return None;
+        };
+        let [n3, n2, n1, n0, t5, t4, t3, t2, t1, t0, ..] = rest else {
+            return None;
+        };
         Some(EstimateRecord {
-            forward: label_of(*forward),
-            backward: label_of(*backward),
+            forward: label_of([*m3, *m2, *m1, *m0, *s5, *s4, *s3, *s2, *s1, *s0]),
+            backward: label_of([*n3, *n2, *n1, *n0, *t5, *t4, *t3, *t2, *t1, *t0]),
         })
     }
 
@@ -175,7 +178,7 @@ impl Record<{ EstimateRecord::SIZE }> for EstimateRecord {
 #[derive(Clone, Copy)]
 pub struct AnswerRecord {
     pub run: u32,
-    // Kept: (a) the page's own byte, 0 or 1 or worse, which `keeps` judges after it is read.
+    // Kept: a number, the page's own byte, 0 or 1 or worse, which `keeps` judges after it is read.
     pub outcome: u8,
     pub cost: LabelForm,
     pub steps: u16,
@@ -220,8 +223,7 @@ impl Record<{ AnswerRecord::SIZE }> for AnswerRecord {
             && label_fits(limits.kind, self.cost)
             && self.steps <= MOST_STEPS
             && self.taken < limits.stations
-            && (self.outcome == 0
-                || self.cost.moves == 0 && self.cost.samples == 0 && self.steps == 0)
+            && (self.outcome == 0 || self.cost == LabelForm::default() && self.steps == 0)
     }
 
     fn bytes(&self) -> [u8; AnswerRecord::SIZE] {

@@ -12,7 +12,7 @@ pub const MOST_STEPS: u16 = 4095;
 /// The cost kind that is read for, and how many stations and sections there are.
 #[derive(Clone, Copy)]
 pub struct Limits {
-    // Kept: (a) it is held against the header's own byte, which may be of any kind.
+    // Kept: a number, since it is held against the header's own byte, which may be of any kind.
     pub kind: u8,
     pub stations: u16,
     pub sections: u16,

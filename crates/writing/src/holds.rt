@@ -7,7 +7,7 @@ ghost use Rattle.contents.specs.Content.{meant_of};
 ghost use Rattle.contents.specs.Writing.{step_good, nothing_at, meant_good, steps_fault, answer_fault};
 
 use crate::bodies::form_of;
-use amounts::cost::Cost;
+use amounts::cost::{Cost, LabelForm};
 use contents::answer::{Outcome, Step, WholeAnswer};
 use faults::{Fault, Layer, Refusal};
 use networks::network::Network;
@@ -30,10 +30,7 @@ fn nothing_at<C: Cost>(outcome: Outcome, cost: C::Label, steps: usize) -> bool
 {
     match outcome {
         Outcome::Found => true,
-        Outcome::NoRoute => {
-            let form = form_of::<C>(cost);
-            form.moves == 0 && form.samples == 0 && steps == 0
-        }
+        Outcome::NoRoute => form_of::<C>(cost) == LabelForm::default() && steps == 0,
     }
 }
 
