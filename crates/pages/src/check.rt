@@ -2,6 +2,7 @@
 ghost use Rattle.std.specs.Prelude.{◌≡◌};
 ghost use Rattle.contents.specs.Checks.{header_of, headed, due_end, due_answer, check_page};
 
+use amounts::cost::Cost;
 use faults::{Fault, Layer, Refusal};
 use records::due::Rest;
 use records::kinds::{
@@ -36,10 +37,11 @@ fn check_answer(rest: Rest) -> Result<(), Fault>
     check_end(steps.behind(StepRecord::SIZE * usize::from(answer.steps)))
 }
 
-/// The header of a page that passes every check for a kind.
-pub(crate) fn check_page(page: &[u8], kind: u8) -> Result<HeaderRecord, Fault>
-    ensures { result ≡ headed (header_of page.now) (check_page kind page.now) }
+/// The header of a page that passes every check for a kind of cost.
+pub(crate) fn check_page<C: Cost>(page: &[u8]) -> Result<HeaderRecord, Fault>
+    ensures { result ≡ headed (header_of page.now) (check_page C.Cost.KIND page.now) }
 {
+    let kind = C::KIND;
     let whole = Rest {
         length: page.len(),
         bytes: page,

@@ -65,10 +65,9 @@ impl<C: Cost> PageView<'_, C> {
     pub(crate) fn ends(&self, number: usize) -> (usize, usize)
         ensures { result ≡ (from_of (slice_get (net_of C.Cost self.now.bytes.now).sections number), to_of (slice_get (net_of C.Cost self.now.bytes.now).sections number)) }
     {
-        match self.section_record(number) {
-            Some(body) => (usize::from(body.from), usize::from(body.to)),
-            None => (0, 0),
-        }
+        self.section_record(number).map_or((0, 0), |body| {
+            (usize::from(body.from), usize::from(body.to))
+        })
     }
 
     fn section_record(&self, number: usize) -> Option<SectionRecord>

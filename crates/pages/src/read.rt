@@ -40,7 +40,7 @@ pub fn read<'a, C: Cost>(page: &'a [u8], view: &mut PageView<'a, C>) -> Result<(
     ensures filled { elim result [ Ok _ ↦ view.new.bytes.now ≡ page.now | Err _ ↦ view.new ≡ view.old ] }
     ensures again { elim result [ Ok _ ↦ Again C.Cost page.now | Err _ ↦ Unit {0} ] }
 {
-    let header = check_page(page, C::KIND)?;
+    let header = check_page::<C>(page)?;
     *view = PageView {
         bytes: page,
         header,

@@ -4,7 +4,7 @@ ghost use Rattle.records.specs.Laws.{header_laws, section_laws, estimate_laws, a
 ghost use Rattle.std.specs.Prelude.{refl};
 
 use crate::limits::{Limits, MOST_SECTIONS, MOST_STATIONS, MOST_STEPS};
-use crate::numbers::{label_bytes, label_fits, label_of, moves_fit, section_bytes, section_of};
+use crate::numbers::{label_bytes, label_of, section_bytes, section_of};
 use crate::record::Record;
 use amounts::cost::{LabelForm, SectionForm};
 
@@ -51,7 +51,7 @@ impl Record<{ SectionRecord::SIZE }> for SectionRecord {
         self.state <= 1
             && self.from < limits.stations
             && self.to < limits.stations
-            && moves_fit(limits.kind, u32::from(self.amount.moves))
+            && limits.moves_fit(u32::from(self.amount.moves))
     }
 
     fn bytes(&self) -> [u8; SectionRecord::SIZE] {
@@ -161,7 +161,7 @@ impl Record<{ EstimateRecord::SIZE }> for EstimateRecord {
     }
 
     fn keeps(&self, limits: &Limits) -> bool {
-        label_fits(limits.kind, self.forward) && label_fits(limits.kind, self.backward)
+        limits.label_fits(self.forward) && limits.label_fits(self.backward)
     }
 
     fn bytes(&self) -> [u8; EstimateRecord::SIZE] {
@@ -220,7 +220,7 @@ impl Record<{ AnswerRecord::SIZE }> for AnswerRecord {
 
     fn keeps(&self, limits: &Limits) -> bool {
         self.outcome <= 1
-            && label_fits(limits.kind, self.cost)
+            && limits.label_fits(self.cost)
             && self.steps <= MOST_STEPS
             && self.taken < limits.stations
             && (self.outcome == 0 || self.cost == LabelForm::default() && self.steps == 0)
@@ -274,7 +274,7 @@ impl Record<{ StepRecord::SIZE }> for StepRecord {
     }
 
     fn keeps(&self, limits: &Limits) -> bool {
-        self.section < limits.sections && label_fits(limits.kind, self.so_far)
+        self.section < limits.sections && limits.label_fits(self.so_far)
     }
 
     fn bytes(&self) -> [u8; StepRecord::SIZE] {

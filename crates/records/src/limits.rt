@@ -1,4 +1,10 @@
 //! What the fields of a record are held against.
+ghost use Rattle.std.specs.Prelude.{◌≡◌};
+ghost use Rattle.amounts.specs.Forms.{moves_fit};
+ghost use Rattle.records.specs.Values.{label_fits};
+
+use amounts::cost::LabelForm;
+use amounts::limits::SAMPLES;
 
 /// The most stations of a page.
 pub const MOST_STATIONS: u16 = 4096;
@@ -16,4 +22,20 @@ pub struct Limits {
     pub kind: u8,
     pub stations: u16,
     pub sections: u16,
+}
+
+impl Limits {
+    /// Whether the cost kind may have so many moves: kind 1 has none.
+    pub(crate) fn moves_fit(&self, moves: u32) -> bool
+        ensures { result ≡ moves_fit self.now.kind moves }
+    {
+        self.kind != 1 || moves == 0
+    }
+
+    /// Whether the cost kind may have this amount as an estimate or a cost.
+    pub(crate) fn label_fits(&self, form: LabelForm) -> bool
+        ensures { result ≡ label_fits self.now.kind form }
+    {
+        self.moves_fit(form.moves) && form.samples < SAMPLES
+    }
 }

@@ -1,11 +1,9 @@
-//! Amounts in bytes, high byte first, and which of them fit.
+//! Amounts in bytes, high byte first.
 ghost use Rattle.std.specs.Prelude.{◌≡◌, ◌++◌};
-ghost use Rattle.amounts.specs.Forms.{section_form, label_form, moves_fit};
+ghost use Rattle.amounts.specs.Forms.{section_form, label_form};
 ghost use Rattle.records.specs.Bytes.{number_at, bytes_of};
-ghost use Rattle.records.specs.Values.{label_fits};
 
 use amounts::cost::{LabelForm, SectionForm};
-use amounts::limits::SAMPLES;
 
 /// A section's amount: moves in two bytes, samples in four.
 pub(crate) fn section_of(bytes: [u8; 6]) -> SectionForm
@@ -44,18 +42,4 @@ pub(crate) fn label_bytes(form: LabelForm) -> [u8; 10]
     let [m3, m2, m1, m0] = form.moves.to_be_bytes();
     let [_, _, s5, s4, s3, s2, s1, s0] = form.samples.to_be_bytes();
     [m3, m2, m1, m0, s5, s4, s3, s2, s1, s0]
-}
-
-/// Whether a cost kind may have so many moves: kind 1 has none.
-pub(crate) fn moves_fit(kind: u8, moves: u32) -> bool
-    ensures { result ≡ moves_fit kind moves }
-{
-    kind != 1 || moves == 0
-}
-
-/// Whether a cost kind may have this amount as an estimate or a cost.
-pub(crate) fn label_fits(kind: u8, form: LabelForm) -> bool
-    ensures { result ≡ label_fits kind form }
-{
-    moves_fit(kind, form.moves) && form.samples < SAMPLES
 }

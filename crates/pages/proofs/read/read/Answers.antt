@@ -11,13 +11,13 @@ returns-in_err-header g c =
     let bs = c.args.page.now in
     let kind = g.C.Cost.KIND in
     let p = err_from_is_err_and c.from_residual.result c.from_residual.ensures.1 in
-    rw (p.1, p.2) (record { answer = headed_err (header_of bs) (check_page kind bs) _ (c.in_err-header.ensures ∙ ap (λ k. headed (header_of bs) (check_page k bs)) c.KIND.ensures); filled = refl; again = tt })
+    rw (p.1, p.2) (record { answer = headed_err (header_of bs) (check_page kind bs) _ (c.in_err-header.ensures); filled = refl; again = tt })
 
 pub invariant_of-view : goal.invariant_of-view
 invariant_of-view g c =
     let bs = c.args.page.now in
     let kind = g.C.Cost.KIND in
-    let told = headed_ok _ (header_of bs) (check_page kind bs) (c.in_ok-header.ensures ∙ ap (λ k. headed (header_of bs) (check_page k bs)) c.KIND.ensures) in
+    let told = headed_ok _ (header_of bs) (check_page kind bs) (c.in_ok-header.ensures) in
     let same = kind_is kind bs told.1 in
     record {
       bytes_fit = test_from_each bs (λ i. omega (arith, c.type_inv.page i));
@@ -29,7 +29,7 @@ pub returns : goal.returns
 returns g c =
     let bs = c.args.page.now in
     let kind = g.C.Cost.KIND in
-    let told = headed_ok _ (header_of bs) (check_page kind bs) (c.in_ok-header.ensures ∙ ap (λ k. headed (header_of bs) (check_page k bs)) c.KIND.ensures) in
+    let told = headed_ok _ (header_of bs) (check_page kind bs) (c.in_ok-header.ensures) in
     let all = bytes_from_test bs (test_from_each bs (λ i. omega (arith, c.type_inv.page i))) in
     let laws : PageLaws g.C.Cost = record { sections = g.met.C.Cost.sections; labels = g.met.C.Cost.labels; kinds = g.met.C.Cost.kinds } in
     record { answer = sym told.1; filled = refl; again = again_of g.C.Cost laws bs all told.1 }
