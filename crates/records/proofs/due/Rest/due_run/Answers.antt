@@ -10,15 +10,3 @@ loop-preserved g c =
     let told = c.behind-rest.ensures in
     run_more g.R.Record.shape rest.limits rest.length c.args.count c.loop.counter rest.bytes.now _ c.loop-test.true c.in_ok-due.ensures
     next.limits next.length next.bytes.now told.limits told.length (told.bytes ∙ ap (λ n. drop n rest.bytes.now) g.met.R.Record.sized) ∙ c.loop.invariant
-
-pub returns-in_err-due : goal.returns-in_err-due
-returns-in_err-due g c =
-    let rest = c.loop.rest in
-    let p = err_from_is_err_and c.from_residual.result c.from_residual.ensures.1 in
-    rw (p.1, p.2)
-    (run_stops g.R.Record.shape rest.limits rest.length c.args.count c.loop.counter rest.bytes.now _ c.loop-test.true c.in_err-due.ensures ∙ c.loop.invariant)
-
-pub returns : goal.returns
-returns g c =
-    let rest = c.loop.rest in
-    run_all g.R.Record.shape rest.limits rest.length c.args.count c.loop.counter rest.bytes.now c.loop-test.false ∙ c.loop.invariant

@@ -10,6 +10,3 @@ pub returns-then-station-self-2 : goal.returns-then-station-self-2
 returns-then-station-self-2 c =
     let x = c.crossing-then-station-self-2.ensures in
     rw (← c.self.view_is) (across_lower _ c.self.invariant c.args.station _ c.args.side c.if-station-self.false (rw (← c.self.view_is, c.eq-then-station-self-2.ensures) at x))
-
-pub returns-else-station-self-2 : goal.returns-else-station-self-2
-returns-else-station-self-2 c = rw (← c.self.view_is) (across_none _ c.self.invariant c.args.side c.args.station c.if-station-self-2.false)

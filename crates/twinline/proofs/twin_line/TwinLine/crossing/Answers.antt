@@ -3,9 +3,3 @@ use Rattle.twinline.proofs.twin_line.TwinLine.crossing.Goals as goal
 
 pub returns-then-place-self-ne0 : goal.returns-then-place-self-ne0
 returns-then-place-self-ne0 c = rw (← c.self.view_is) (cross_none _ c.self.invariant c.args.place c.args.down c.if-place-self-ne0.true)
-
-pub returns-then-down : goal.returns-then-down
-returns-then-down c = rw (← c.self.view_is, c.if-down.true) (cross_at_down _ c.self.invariant c.args.place c.if-place-self-ne0.false (rw (← c.self.view_is) at c.requires))
-
-pub returns-else-down : goal.returns-else-down
-returns-else-down c = rw (← c.self.view_is, c.if-down.false) (cross_at_up _ c.self.invariant c.args.place c.if-place-self-ne0.false (rw (← c.self.view_is) at c.requires))
