@@ -7,17 +7,6 @@ use Rattle.contents.specs.Checks.{has_answer, due_end}
 use Rattle.contents.proofs.Checking.{answer_stops, answer_ends}
 use Rattle.pages.proofs.check.check_answer.Goals as goal
 
-pub returns-in_err-due_run : goal.returns-in_err-due_run
-returns-in_err-due_run c =
-    let rest = c.args.rest in
-    let a = c.in_ok-answer.answer in
-    let steps = c.behind-steps.result in
-    let told = c.behind-steps.ensures in
-    let there : has_answer rest.bytes.now ≡ true = eq-eqb _ _ (search rules) in
-    let p = err_from_is_err_and c.from_residual-in_err-due_run.result c.from_residual-in_err-due_run.ensures.1 in
-    let run = c.in_err-due_run.ensures ∙ ap₂ (λ l n. due_run step_shape l n a.steps steps.bytes.now) told.limits told.length in
-    rw (p.1, p.2) (answer_stops rest.limits rest.length rest.bytes.now a there c.in_ok-answer.ensures _ steps.bytes.now told.bytes run)
-
 pub returns : goal.returns
 returns c =
     let rest = c.args.rest in

@@ -7,16 +7,6 @@ use Rattle.pages.proofs.page_network.nth_record.Goals as goal
 pub returns-then-k-count : goal.returns-then-k-count
 returns-then-k-count g c = sym (nth_run_past g.R.Record.shape c.args.count c.args.k (drop c.args.from c.args.bytes.now) c.if-k-count.true)
 
-pub overflow_mul-k : goal.overflow_mul-k
-overflow_mul-k g c =
-    let there = room c.args.from (size_of g.R.Record.shape) c.args.count c.args.k (length c.args.bytes.now) c.if-k-count.false c.requires in
-    omega (arith, ap (λ n. n * c.args.k) g.met.R.Record.sized)
-
-pub overflow_add-from : goal.overflow_add-from
-overflow_add-from g c =
-    let there = room c.args.from (size_of g.R.Record.shape) c.args.count c.args.k (length c.args.bytes.now) c.if-k-count.false c.requires in
-    omega (arith, ap (λ n. n * c.args.k) g.met.R.Record.sized)
-
 pub returns : goal.returns
 returns g c =
     let bytes = c.args.bytes.now in

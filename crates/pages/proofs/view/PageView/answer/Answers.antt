@@ -4,11 +4,6 @@ use Rattle.contents.specs.Content.{filed_by}
 use Rattle.contents.proofs.Answers.{meaning, answer_some, answer_none, meaning_steps}
 use Rattle.pages.proofs.view.PageView.answer.Goals as goal
 
-pub returns-in_err-body : goal.returns-in_err-body
-returns-in_err-body g c =
-    let bs = c.args.self.now.bytes.now in
-    c.from_residual.ensures ∙ ap (option_map filed_by) (answer_none g.C.Cost bs (sym c.in_err-body.was ∙ c.answer_record.ensures))
-
 pub returns : goal.returns
 returns g c =
     let bs = c.args.self.now.bytes.now in

@@ -9,11 +9,6 @@ use Rattle.contents.proofs.Mapped.{mapped_some, mapped_none}
 use Rattle.pages.proofs.Views.{view_answered}
 use Rattle.pages.proofs.view.PageView.step.Goals as goal
 
-pub returns-in_err-answer : goal.returns-in_err-answer
-returns-in_err-answer g c =
-    let bs = c.args.self.now.bytes.now in
-    c.from_residual.ensures ∙ ap (λ o. step_in o c.args.k) (answer_none g.C.Cost bs (sym c.in_err-answer.was ∙ c.answer_record.ensures))
-
 pub nth_record-requires : goal.nth_record-requires
 nth_record-requires g c =
     let v = c.args.self.now in

@@ -6,23 +6,11 @@ use Rattle.contents.specs.Retracing.{walks, same}
 use Rattle.contents.proofs.Walking.{walk_more, walk_stops, walk_all}
 use Rattle.pages.proofs.view.PageView.walk.Goals as goal
 
-pub loop-k-init : goal.loop-k-init
-loop-k-init g c =
-    let k = g.C.Cost in
-    let bs = c.args.self.now.bytes.now in
-    ap₂ (λ u a. walks k (net_of k bs) u a c.args.total (steps_in (answer_of k bs))) c.launcher-station.ensures (c.ZERO-cost.ensures ∙ g.met.C.Cost.zero)
-
 pub loop-k-preserved : goal.loop-k-preserved
 loop-k-preserved g c =
     let k = g.C.Cost in
     let bs = c.args.self.now.bytes.now in
     walk_more k (net_of k bs) c.args.total (steps_in (answer_of k bs)) c.loop-k.k c.loop-k.station c.loop-k.cost c.in-Some.step c.in-Some.ensures c.if-not-right.ensures ∙ c.loop-k.invariant
-
-pub returns-in_default : goal.returns-in_default
-returns-in_default g c =
-    let k = g.C.Cost in
-    let steps = steps_in (answer_of k c.args.self.now.bytes.now) in
-    absurd (omega (arith, past_nth steps c.loop-k.k c.in_default.ensures, c.requires))
 
 pub returns-then-not-right : goal.returns-then-not-right
 returns-then-not-right g c =
