@@ -16,10 +16,6 @@ room from size count k len h l =
 pub row_room : {R : Type 0} (shape : Shape R) (at : ℕ) (rs : List R) (k : ℕ) (r : R) (len : ℕ) → Some r ≡ slice_get rs k → at + size_of shape * length rs ≤ len → at + size_of shape * k + size_of shape ≤ len
 row_room shape at rs k r len e l = room at (size_of shape) (length rs) k len (below_nth rs k r e) l
 
--- records are at least a byte wide
-pub some_wide : {R : Type 0} (shape : Shape R) (k : ℕ) → k ≤ size_of shape * k
-some_wide shape k = omega (arith, add-mul 1 (width_of shape.widths) k)
-
 pub front_is : {R : Type 0} (shape : Shape R) (r : Option R) (bs : List ℕ) → MatchOption r (length bs < size_of shape) (λ x. (size_of shape ≤ length bs) × (x ≡ decoded shape bs)) → size_of shape ≤ length bs → r ≡ Some (decoded shape bs)
 front_is shape None bs h l = absurd (omega arith)
 front_is shape (Some x) bs h l = ap Some h.1

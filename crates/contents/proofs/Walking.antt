@@ -43,6 +43,3 @@ module _ {C L S : Type 0} (c : cost.Ghosts C L S) (net : Net S) (o : Option (Mea
 
   pub retraced_found : f.outcome ≡ Found → walks c net net.launcher c.ops.zero f.cost (steps_in o) ≡ retraced c net o
   retraced_found e = retraced_by Found e
-
-  pub retraced_none : f.outcome ≡ NoRoute → false ≡ retraced c net o
-  retraced_none e = retraced_by NoRoute e

@@ -1,4 +1,3 @@
-pub mod Ranges
 pub mod Nets
 pub mod Given
 pub mod Blanks

@@ -1,6 +1,7 @@
 //! Estimates that say nothing: zero both ways.
-ghost use Rattle.std.specs.Prelude.{◌≡◌, ℕ, ◌≤◌};
+ghost use Rattle.std.specs.Prelude.{◌≡◌, ℕ, ◌≤◌, length};
 ghost use Rattle.networks.specs.Blanks.{blank_answer, blank_pairs};
+ghost use Rattle.networks.specs.Given.{GivenInRange};
 
 use crate::estimates::{Estimates, Pair};
 use amounts::cost::Cost;
@@ -41,7 +42,12 @@ impl Blank {
 impl<C: Cost> Estimates<C> for Blank {
     ghost meaning = { blank_pairs C.Cost.ops };
 
-    fn count(&self) -> usize {
+    /// A count is always in its range.
+    fn count(&self) -> usize
+        ensures count { result ≡ length (blank_pairs C.Cost.ops self.now) }
+        ensures range { GivenInRange C.Cost.shown (blank_pairs C.Cost.ops self.now) }
+        ensures within { (1 ≤ self.now) × (self.now ≤ 4096) }
+    {
         self.count
     }
 

@@ -1,14 +1,20 @@
 -- Which sections of a twin line go across at a station.
+use denote.Enum.Bare.{sameb}
 use Rattle.std.proofs.Common.{◌≡◌, ℕ, ◌+◌, ◌-◌, ◌*◌, ◌/◌, ◌%◌, ◌<◌, ◌≤◌, Bool, true, false, cond, Some, None, Option, sym, ap, ◌∙◌, ⊎_elim, div-add-mod', le-div_iff_mul-le, arith}
 use native.Mathlib.Nat.{div-eq_of_eq-mul_left, mul-mod_left}
 use Rattle.std.proofs.lemmas.Bool.{le-ltb, eq-eqb, ne_eqb, eqb-true, eqb-false, cases_Bool}
 use Rattle.std.proofs.lemmas.Option.{none-some, same_Some}
 use Rattle.std.proofs.lemmas.Bool.Decides.{nat_tests}
 use Rattle.faults.specs.declared.Side.{Side}
+use Rattle.faults.specs.contracts.Side.{the_type}
 use Rattle.faults.specs.declared.Side.TheVariants.{Forward, Backward}
-use Rattle.twinline.specs.Touching.{Only, Crossing, same_side}
+use Rattle.twinline.specs.Touching.{Only, Crossing}
 use Rattle.twinline.specs.Twin.{Line, LineRange, along, section_count, end_of, cross_place, cross_down}
 use Rattle.twinline.proofs.Twins.{place_within}
+
+-- the derived equality
+abbrev pub same_side : Side → Side → Bool
+same_side = sameb the_type
 
 module _ (t : Line) (r : LineRange t) (place : ℕ) where
   -- where the place is no multiple of the spacing, nothing crosses

@@ -4,6 +4,7 @@ ghost use Rattle.std.specs.List.{slice_get};
 ghost use Rattle.faults.specs.Faults.{ranged_from};
 ghost use Rattle.amounts.specs.Forms.{section_form};
 ghost use Rattle.networks.specs.declared.section.Section.{Section as Part};
+ghost use Rattle.networks.specs.Nets.{InRange};
 ghost use Rattle.twinline.specs.Twin.{Line, LineRange, line, line_drawn, twin_net, numbered as section_by, along as along_of, section_count, end_of, open_section};
 ghost use Rattle.twinline.specs.Drawn.{Drawn};
 ghost use Rattle.twinline.specs.Touching.{Only, Crossing, or_none};
@@ -188,7 +189,12 @@ impl TwinLine {
 impl<C: Cost> Network<C> for TwinLine {
     ghost meaning = { twin_net C.Cost.made };
 
-    fn stations(&self) -> usize {
+    /// What the line holds is always in its range.
+    fn stations(&self) -> usize
+        ensures count { result ≡ (twin_net C.Cost.made self.now).stations }
+        ensures range { InRange C.Cost.parts (twin_net C.Cost.made self.now) }
+        ensures line { LineRange self.now }
+    {
         2 * self.count
     }
 

@@ -10,4 +10,5 @@ returns g c =
     record {
       count = c.self.view_is ∙ sym (length-replicate _ _);
       range = all_replicate (PairInRange g.C.Cost.shown) c.args.self.now _ (record { forward = (_, zero_shown); backward = (_, zero_shown) });
+      within = rw (← c.self.view_is) c.self.invariant;
     }
