@@ -30,25 +30,25 @@ module _ {C L S : Type 0} (c : cost.Ghosts C L S) where
   none_put page at o e = rw e (sym (overlay_none page at))
 
   -- an answer's record, and its steps after it
-  pub some_put : (page : List ℕ) (at : ℕ) (o : Option (Meant L)) (m : Meant L) {one two : List ℕ} → o ≡ Some m
-      → one ≡ overlay page at (encoded answer_shape (answer_record c m)) → two ≡ overlay one (at + 20) (encoded_run step_shape (map (step_record c) m.steps))
-      → at + 20 ≤ length page → two ≡ overlay page at (answer_encoded c o)
-  some_put page at o m e p q room =
-      rw (e, q, p) (overlay_more page at (encoded answer_shape (answer_record c m)) (encoded_run step_shape (map (step_record c) m.steps)) (at + 20) refl room)
+  pub some_put : (page : List ℕ) (at : ℕ) (o : Option (Meant L)) (m : Meant L) {one two : List ℕ} (next : ℕ) → o ≡ Some m
+      → one ≡ overlay page at (encoded answer_shape (answer_record c m)) → two ≡ overlay one next (encoded_run step_shape (map (step_record c) m.steps))
+      → next ≡ at + 20 → next ≤ length page → two ≡ overlay page at (answer_encoded c o)
+  some_put page at o m next e p q place room =
+      rw (e, q, p) (overlay_more page at (encoded answer_shape (answer_record c m)) (encoded_run step_shape (map (step_record c) m.steps)) next place (omega arith))
 
   -- The page -------------------------------------------------------------------------------------
 
   module _ (page : List ℕ) (x : Content L S) where
     -- header, sections, estimates, answer and end, one after another
-    pub page_put : {one two three four five : List ℕ} (pairs after end : ℕ)
+    pub page_put : {one two three four five : List ℕ} (body pairs after end : ℕ)
         → one ≡ overlay page 0 (encoded header_shape (header_record c x.network))
-        → two ≡ overlay one 10 (encoded_run section_shape (map (section_record c) x.network.sections))
+        → two ≡ overlay one body (encoded_run section_shape (map (section_record c) x.network.sections))
         → three ≡ overlay two pairs (encoded_run estimate_shape (map (estimate_record c) x.estimates))
         → four ≡ overlay three after (answer_encoded c x.answer)
         → five ≡ overlay four end (encoded end_shape (record {}))
-        → pairs ≡ 10 + 12 * length x.network.sections → after ≡ pairs + 21 * length x.estimates → end ≡ after + answer_size x.answer
+        → body ≡ 10 → pairs ≡ body + 12 * length x.network.sections → after ≡ pairs + 21 * length x.estimates → end ≡ after + answer_size x.answer
         → end + 1 ≤ length page → five ≡ encode c x ++ drop (length (encode c x)) page
-    page_put pairs after end p₁ p₂ p₃ p₄ p₅ e₁ e₂ e₃ room =
+    page_put body pairs after end p₁ p₂ p₃ p₄ p₅ e₀ e₁ e₂ e₃ room =
         let ss = map (section_record c) x.network.sections in
         let es = map (estimate_record c) x.estimates in
         let l₁ = length-encoded_run section_shape section_laws ss in
@@ -56,8 +56,8 @@ module _ {C L S : Type 0} (c : cost.Ghosts C L S) where
         let n₁ = length-map x.network.sections (section_record c) in
         let n₂ = length-map x.estimates (estimate_record c) in
         let a = answer_size_lem x.answer in
-        overlay_five page (encoded header_shape (header_record c x.network)) (encoded_run section_shape ss) (encoded_run estimate_shape es) (answer_encoded c x.answer) (encoded end_shape (record {})) 10 pairs after end
-        p₁ p₂ p₃ p₄ p₅ refl (omega arith) (omega arith) (omega arith) room
+        overlay_five page (encoded header_shape (header_record c x.network)) (encoded_run section_shape ss) (encoded_run estimate_shape es) (answer_encoded c x.answer) (encoded end_shape (record {})) body pairs after end
+        p₁ p₂ p₃ p₄ p₅ (omega arith) (omega arith) (omega arith) (omega arith) room
         ∙ overlay_front page (encode c x)
 
     -- what is answered where a page cannot hold the answer

@@ -20,7 +20,8 @@ pub(crate) fn form_of<C: Cost>(amount: C::Label) -> LabelForm
 }
 
 pub(crate) fn header_body<C: Cost, N: Network<C>>(net: &N) -> HeaderRecord
-    ensures { result ≡ header_record C.Cost (N.Network.meaning net.now) }
+    ensures body { result ≡ header_record C.Cost (N.Network.meaning net.now) }
+    ensures range { InRange C.Cost.parts (N.Network.meaning net.now) }
 {
     HeaderRecord {
         kind: C::KIND,

@@ -33,7 +33,11 @@ fn answer_end<L>(at: usize, answer: &Option<WholeAnswer<'_, L>>) -> usize
 }
 
 /// Puts an answer with its steps, if there is one, on the page from an offset on, and answers where they end.
-fn put_answer<C: Cost>(page: &mut [u8], at: usize, answer: &Option<WholeAnswer<'_, C::Label>>) -> usize
+fn put_answer<C: Cost>(
+    page: &mut [u8],
+    at: usize,
+    answer: &Option<WholeAnswer<'_, C::Label>>,
+) -> usize
     requires room { at + answer_size (option_map meant_of answer.now) ≤ length page.old }
     requires short { Short (option_map meant_of answer.now) }
     ensures end { result ≡ at + answer_size (option_map meant_of answer.now) }
@@ -43,12 +47,9 @@ fn put_answer<C: Cost>(page: &mut [u8], at: usize, answer: &Option<WholeAnswer<'
     let Some(answer) = answer else {
         return at;
     };
-    put(page, at, &answer_body::<C>(answer));
     let steps = answer.steps;
-    put_run(page, at + AnswerRecord::SIZE, steps.len(), |k| {
-        step_row::<C>(steps, k)
-    });
-    at + AnswerRecord::SIZE + StepRecord::SIZE * steps.len()
+    let end = put(page, at, &answer_body::<C>(answer));
+    put_run(page, end, steps.len(), |k| step_row::<C>(steps, k))
 }
 
 /// Whether all can be written on a page of so many bytes; else the fault: other stations than the network's, too short
@@ -86,21 +87,15 @@ fn put_page<C: Cost, N: Network<C>, E: Estimates<C>>(
     ensures left { record { answer = Ok result; page = page.new } ≡ write_of C.Cost page.old (content_by (N.Network.meaning net.now) (E.Estimates.meaning estimates.now) answer.now) }
     ensures back { Back C.Cost (content_by (N.Network.meaning net.now) (E.Estimates.meaning estimates.now) answer.now) (take result page.new) }
 {
-    let count = estimates.count();
-    // Asked for what it promises: that the network is in range.
-    let _stations = net.stations();
-    let pairs = HeaderRecord::SIZE + SectionRecord::SIZE * net.sections();
-    let after = pairs + EstimateRecord::SIZE * count;
-    put(page, 0, &header_body::<C, N>(net));
-    put_run(page, HeaderRecord::SIZE, net.sections(), |number| {
+    let end = put(page, 0, &header_body::<C, N>(net));
+    let end = put_run(page, end, net.sections(), |number| {
         section_row::<C, N>(net, number)
     });
-    put_run(page, pairs, count, |station| {
+    let end = put_run(page, end, estimates.count(), |station| {
         estimate_row::<C, E>(estimates, station)
     });
-    let end = put_answer::<C>(page, after, answer);
-    put(page, end, &EndRecord);
-    end + EndRecord::SIZE
+    let end = put_answer::<C>(page, end, answer);
+    put(page, end, &EndRecord)
 }
 
 /// Writes a network, estimates and perhaps an answer over the front of the page, and answers how many bytes.
