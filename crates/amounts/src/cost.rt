@@ -5,6 +5,8 @@ ghost use Rattle.amounts.specs.Forms.{SectionLaws, LabelLaws, KindLaws, TotalsOn
 ghost use Rattle.amounts.specs.declared.cost.SectionForm.{SectionForm};
 ghost use Rattle.amounts.specs.declared.cost.LabelForm.{LabelForm};
 
+// Kept: two structs, since a generic one would say by its parameters what the two names say.
+
 /// A section's amount as it stands on a page.
 #[derive(Clone, Copy, Debug, Default, PartialEq, Eq)]
 pub struct SectionForm {

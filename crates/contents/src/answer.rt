@@ -35,6 +35,7 @@ pub struct Step<L> {
 #[derive(Clone, Copy)]
 pub struct Answer<L, S> {
     pub run: u32,
+    // Kept: beside cost and steps, as on the page; an answer of no route that has some is put in, and refused.
     pub outcome: Outcome,
     pub cost: L,
     pub taken: usize,

@@ -124,6 +124,7 @@ impl<'a, C: Cost> Network<C> for PageView<'a, C> {
 
     /// By a scan of the sections.
     fn touching(&self, side: Side, station: usize, k: usize) -> Option<usize> {
+        // Kept: `filter` and `nth` over the numbers were tried, and got no proof that the k-th of the meaning comes.
         let mut left = k;
         for number in 0..usize::from(self.header.sections) {
             let Some(body) = self.section_record(number) else {

@@ -10,6 +10,7 @@ use contents::answer::{Outcome, Step};
 use networks::network::Network;
 
 /// Whether two amounts are one.
+// Kept: by the order, since labels need have no `==`; a bound for one would ask more of every kind.
 fn same<C: Cost>(a: C::Label, b: C::Label) -> bool
     ensures { result ≡ same_as C.Cost a b }
 {
@@ -36,6 +37,7 @@ impl<C: Cost> PageView<'_, C> {
     {
         let mut station = self.launcher();
         let mut cost = C::ZERO;
+        // Kept: a view gives its steps by number; a fold would carry the same two values in a tuple.
         for k in 0..steps {
             let Some(step) = self.step(k) else {
                 return false;

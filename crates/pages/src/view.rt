@@ -7,6 +7,8 @@ use records::kinds::HeaderRecord;
 use std::alloc::AllocError;
 use std::marker::PhantomData;
 
+// Kept: clauses name its `bytes`, since a type that is Copy and has a lifetime can have no model.
+
 /// The page's own bytes and its header, for a kind of cost.
 pub struct PageView<'a, C: Cost> {
     pub(crate) bytes: &'a [u8],
@@ -17,7 +19,7 @@ pub struct PageView<'a, C: Cost> {
     ghost accepted: { is_ok (check_page header.kind bytes.now) ≡ true },
 }
 
-// A derive is refused at a generic struct with ghost fields.
+// Kept: by hand, since a derive is refused at a generic struct with ghost fields.
 impl<C: Cost> Clone for PageView<'_, C> {
     ghost is_clone = { λ v w. w ≡ v };
 

@@ -52,6 +52,9 @@ fn put_answer<C: Cost>(
     put_run(page, end, steps.len(), |k| step_row::<C>(steps, k))
 }
 
+// Kept: network, estimates and answer, as the caller of `write` gives them; a struct would be made there only to be
+// taken apart here, behind longer clauses.
+
 /// Whether all can be written on a page of so many bytes; else the fault: other stations than the network's, too short
 /// a page, then an answer that a page cannot hold.
 fn check_write<C: Cost, N: Network<C>, E: Estimates<C>>(

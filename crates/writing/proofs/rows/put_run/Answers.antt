@@ -7,8 +7,7 @@ use Rattle.writing.proofs.rows.put_run.Goals as goal
 
 pub loop-k-preserved : goal.loop-k-preserved
 loop-k-preserved g c =
-    let k = c.loop-k.k in
-    (
+    let k = c.loop-k.k in (
       omega (arith, c.loop-k.invariant.0, mul-add (size_of g.R.Record.shape) k 1),
       λ rs made.
           let many = made.many in
