@@ -2,6 +2,7 @@
 use Rattle.std.proofs.Common.{◌≡◌, ℕ, ◌+◌, ◌*◌, Bool, true, false, cond, List, length, drop, Some, None, Option, sym, refl, ap, ◌∙◌, drop-drop}
 use Rattle.std.specs.List.{slice_get}
 use Rattle.std.proofs.lemmas.List.{length-map}
+use Rattle.std.proofs.lemmas.Option.{cond_some}
 use Rattle.amounts.specs.declared.cost.Cost as cost
 use Rattle.std.specs.Option.{option_map}
 use Rattle.records.specs.declared.kinds.AnswerRecord.{AnswerRecord}
@@ -14,10 +15,6 @@ use Rattle.contents.specs.Checks.{header_of, answer_bytes, has_answer, step_byte
 use Rattle.contents.proofs.Accepting.{answer_place}
 use Rattle.contents.specs.Content.{Meant, filed_by, meant_by, step_from, net_of, answer_of}
 
-some_told : {X : Type 0} (b : Bool) (x a : X) → Some a ≡ cond b (Some x) None → (b ≡ true) × (a ≡ x)
-some_told true x a e = (refl, cc)
-some_told false x a e = cc
-
 none_told : {X : Type 0} (b : Bool) (x : X) → None ≡ cond b (Some x) None → b ≡ false
 none_told true x e = cc
 none_told false x e = refl
@@ -27,10 +24,10 @@ abbrev pub record_in : List ℕ → Option AnswerRecord
 record_in bs = cond (has_answer (answer_bytes bs)) (Some (decoded answer_shape (answer_bytes bs))) None
 
 pub answer_told : (bs : List ℕ) (a : AnswerRecord) → Some a ≡ record_in bs → has_answer (answer_bytes bs) ≡ true
-answer_told bs a e = (some_told (has_answer (answer_bytes bs)) (decoded answer_shape (answer_bytes bs)) a e).0
+answer_told bs a e = (cond_some (has_answer (answer_bytes bs)) (decoded answer_shape (answer_bytes bs)) a (sym e)).0
 
 pub answer_is : (bs : List ℕ) (a : AnswerRecord) → Some a ≡ record_in bs → a ≡ decoded answer_shape (answer_bytes bs)
-answer_is bs a e = (some_told (has_answer (answer_bytes bs)) (decoded answer_shape (answer_bytes bs)) a e).1
+answer_is bs a e = sym (cond_some (has_answer (answer_bytes bs)) (decoded answer_shape (answer_bytes bs)) a (sym e)).1
 
 -- the steps' records, by their offset
 pub steps_read : (bs : List ℕ) (at n count k : ℕ) (r : Option StepRecord) → r ≡ slice_get (decoded_run step_shape n (drop (at + 20) bs)) k → at ≡ 10 + 12 * (header_of bs).sections + 21 * (header_of bs).stations → n ≡ count → r ≡ slice_get (decoded_run step_shape count (step_bytes (answer_bytes bs))) k

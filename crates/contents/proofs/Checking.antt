@@ -1,29 +1,19 @@
 -- The checks of a page, one after another.
-use Rattle.std.proofs.Common.{◌≡◌, ℕ, ◌-◌, ◌*◌, Bool, true, false, cond, eqb, ltb, List, [], ◌∷◌, length, get_or, drop, Ok, Err, Result, sym, ap, ◌∙◌}
+use Rattle.std.proofs.Common.{◌≡◌, ℕ, ◌*◌, true, cond, List, length, drop, Ok, Err, Result, sym, ap, ◌∙◌}
 use Rattle.faults.specs.declared.Fault.{Fault}
-use Rattle.faults.specs.declared.Refusal.TheVariants.{PageEnds, UnexpectedKind, FieldOutOfRange}
 use Rattle.records.specs.declared.limits.Limits.{Limits}
 use Rattle.records.specs.declared.kinds.AnswerRecord.{AnswerRecord}
 use Rattle.records.specs.declared.kinds.HeaderRecord.{HeaderRecord}
-use Rattle.records.specs.Shapes.{Shape, size_of, decoded}
+use Rattle.records.specs.Shapes.{Shape, decoded}
 use Rattle.std.specs.Result.{result_and}
-use Rattle.records.specs.Due.{page_fault, due_record, due_run}
+use Rattle.records.specs.Due.{due_record, due_run}
 use Rattle.records.specs.Layout.{header_shape, section_shape, estimate_shape, answer_shape, step_shape}
+use Rattle.records.proofs.Passing.{due_stands}
 use Rattle.contents.specs.Checks.{header_of, section_bytes, has_answer, step_bytes, step_count, limits_of, limits_for, due_end, due_answer, check_page}
 
--- the one way through the tests of a record
-passed : {R : Type 0} (kind short good : Bool) (x r : R) (f g h : Fault) → cond kind (cond short (Err f) (cond good (Ok x) (Err g))) (Err h) ≡ Ok r → x ≡ r
-passed true true good x r f g h e = cc
-passed true false true x r f g h e = cc
-passed true false false x r f g h e = cc
-passed false short good x r f g h e = cc
-
+-- a record that passed is the one that stands there
 pub due_is : {R : Type 0} (shape : Shape R) (limits : Limits) (len : ℕ) (bs : List ℕ) (r : R) → Ok r ≡ due_record shape limits len bs → decoded shape bs ≡ r
-due_is shape limits len [] r e = cc
-due_is shape limits len (b ∷ bs) r e =
-    let rest = b ∷ bs in
-    let at = len - length rest in
-    passed (eqb (get_or rest 0 0) shape.byte) (ltb (length rest) (size_of shape)) (shape.good limits (decoded shape rest)) (decoded shape rest) r (page_fault (PageEnds len)) (page_fault (FieldOutOfRange at)) (page_fault (UnexpectedKind at)) (sym e)
+due_is shape limits len bs r e = sym (due_stands shape limits len bs r (sym e)).is
 
 module _ (limits : Limits) (len : ℕ) (rest : List ℕ) (a : AnswerRecord) (there : has_answer rest ≡ true) (due : Ok a ≡ due_record answer_shape limits len rest) where
   answer_at : due_answer limits len rest ≡ result_and (due_run step_shape limits len a.steps (step_bytes rest)) (due_end limits len (drop (13 * a.steps) (step_bytes rest)))

@@ -1,7 +1,6 @@
 -- Records by their places on a page.
-use Rattle.std.proofs.Common.{◌≡◌, ℕ, ◌+◌, ◌-◌, ◌*◌, ◌<◌, ◌≤◌, List, length, drop, Some, None, Option, sym, ap, ◌∙◌, add-mul, mul-le-mul_left, mul-one, mul-add, arith, length-drop, drop-drop, MatchOption}
+use Rattle.std.proofs.Common.{◌≡◌, ℕ, ◌+◌, ◌-◌, ◌*◌, ◌<◌, ◌≤◌, List, length, drop, Some, None, Option, sym, ap, ◌∙◌, mul-le-mul_left, mul-one, mul-add, arith, length-drop, drop-drop, MatchOption}
 use Rattle.std.specs.List.{slice_get}
-use Rattle.records.specs.Bytes.{width_of}
 use Rattle.records.specs.Shapes.{Shape, size_of, decoded, decoded_run}
 use Rattle.networks.proofs.Numbers.{below_nth}
 use Rattle.records.proofs.Passing.{nth_run}

@@ -1,7 +1,7 @@
 -- Steps that are walked to the end are a route, and every cost that they show is right.
-use Rattle.std.proofs.Common.{◌≡◌, ℕ, zero, suc, ◌+◌, ◌*◌, ◌^◌, ◌<◌, ◌≤◌, Bool, true, false, cond, not, ◌&&◌, eqb, List, [], ◌∷◌, length, take, Some, None, Option, sym, refl, ap, ◌∙◌, subst, arith}
+use Rattle.std.proofs.Common.{◌≡◌, ℕ, zero, suc, ◌+◌, ◌*◌, ◌^◌, ◌<◌, ◌≤◌, true, false, cond, not, ◌&&◌, eqb, List, [], ◌∷◌, length, take, Some, None, Option, sym, refl, ap, ◌∙◌, subst, arith}
 use Rattle.std.specs.List.{AllByRecursion, slice_get}
-use Rattle.std.proofs.lemmas.Bool.{and_parts, eqb-true, eq-eqb, le-leb}
+use Rattle.std.proofs.lemmas.Bool.{and_parts, eqb-true, eq-eqb, le-leb, not-true}
 use Rattle.amounts.specs.declared.cost.Cost as cost
 use Rattle.amounts.specs.Amount.{Laws, computed}
 use Rattle.networks.specs.declared.section.Section.{Section}
@@ -39,16 +39,12 @@ module _ {C L S : Type 0} (c : cost.Ghosts C L S) (laws : Laws c.ops) (net : Net
     pub here : section.from ≡ u
     pub cost : (computed c.ops).plus a (c.worth section.amount) ≡ s.so_far
 
-  not_true : (b : Bool) → not b ≡ true → b ≡ false
-  not_true true e = cc
-  not_true false e = refl
-
   step_open : (u : ℕ) (a : L) (s : Step L) (o : Option (Section S)) → slice_get net.sections s.section ≡ o → step_right c u a s o ≡ true → Open u a s
   step_open u a s None e r = cc
   step_open u a s (Some x) e r =
       let p = and_parts (not x.shut) _ r in
       let q = and_parts (eqb x.from u) _ p.1 in
-      record { section = x; there = e; «open» = not_true x.shut p.0; here = eqb-true x.from u q.0; cost = same_eq _ _ q.1 }
+      record { section = x; there = e; «open» = not-true x.shut p.0; here = eqb-true x.from u q.0; cost = same_eq _ _ q.1 }
 
   open_step : (u : ℕ) (a : L) (s : Step L) → Open u a s → step_right c u a s (slice_get net.sections s.section) ≡ true
   open_step u a s p =

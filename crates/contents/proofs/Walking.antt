@@ -9,7 +9,7 @@ use Rattle.networks.proofs.Numbers.{drop_nth}
 use Rattle.contents.specs.declared.answer.Step.{Step}
 use Rattle.contents.specs.declared.answer.Answer.{Answer}
 use Rattle.contents.specs.declared.answer.Outcome.{Outcome}
-use Rattle.contents.specs.declared.answer.Outcome.TheVariants.{Found, NoRoute}
+use Rattle.contents.specs.declared.answer.Outcome.TheVariants.{Found}
 use Rattle.contents.specs.Content.{Meant, filed_by, steps_in}
 use Rattle.contents.proofs.Answers.{filed_some}
 use Rattle.contents.specs.Retracing.{same, step_right, walks, walked, retraced}
