@@ -1,5 +1,6 @@
 -- The records of a page, to what they mean and back.
-use Rattle.std.proofs.Common.{◌≡◌, ℕ, zero, suc, ◌*◌, ◌^◌, ◌<◌, ◌≤◌, Bool, true, false, cond, ◌&&◌, ◌||◌, eqb, ltb, leb, List, [], ◌∷◌, ◌++◌, map, length, drop, Some, None, Ok, Option, sym, refl, ap, ◌∙◌, ap₂, arith, lit≤}
+use Rattle.std.proofs.Common.{⊎_elim, ◌≡◌, ℕ, zero, suc, ◌*◌, ◌^◌, ◌<◌, ◌≤◌, Bool, true, false, cond, ◌&&◌, ◌||◌, eqb, ltb, leb, List, [], ◌∷◌, ◌++◌, map, length, drop, Some, None, Ok, Option, sym, refl, ap, ◌∙◌, ap₂, arith, lit≤}
+use Rattle.std.proofs.lemmas.Option.{slice_get_cases, slice_get_within}
 use Rattle.std.specs.List.{AllByRecursion, slice_get}
 use Rattle.std.specs.Option.{is_some, unwrap_or}
 use Rattle.std.proofs.lemmas.List.{length-map, drop_at, take-append-drop, nil_from_length}
@@ -12,7 +13,6 @@ use Rattle.amounts.specs.Forms.{section_form, label_form, same_form, moves_fit, 
 use Rattle.networks.specs.declared.section.Section.{Section}
 use Rattle.networks.specs.Nets.{Net, InRange, SectionInRange}
 use Rattle.networks.specs.Given.{PairInRange}
-use Rattle.networks.proofs.Numbers.{below_nth}
 use Rattle.records.specs.declared.limits.Limits.{Limits}
 use Rattle.records.specs.declared.kinds.HeaderRecord.{HeaderRecord}
 use Rattle.records.specs.declared.kinds.SectionRecord.{SectionRecord}
@@ -119,9 +119,7 @@ number_outcome (suc (suc n)) h = absurd (omega arith)
 
 -- an element by its number
 nth_there : {X : Type 0} (xs : List X) (i : ℕ) → i < length xs → (x : X) × (slice_get xs i ≡ Some x)
-nth_there [] i h = absurd (omega arith)
-nth_there (y ∷ ys) zero h = (y, refl)
-nth_there (y ∷ ys) (suc i) h = nth_there ys i (omega arith)
+nth_there xs i h = ⊎_elim (λ p. (p.0, p.2)) (λ p. absurd (omega arith)) (slice_get_cases xs i).1
 
 module _ {C L S : Type 0} (c : cost.Ghosts C L S) (laws : PageLaws c) where
   -- Amounts ------------------------------------------------------------------------------------
@@ -230,8 +228,8 @@ module _ {C L S : Type 0} (c : cost.Ghosts C L S) (laws : PageLaws c) where
       record {
         fits = λ s v.
             let a = label_written s.so_far v.cost in
-            (omega (arith, below_nth sections s.section v.section (sym v.there)), (a.moves, (a.samples, tt)));
-        good = λ s v. and_from _ _ (lt-ltb _ _ (omega (arith, below_nth sections s.section v.section (sym v.there)))) (label_written s.so_far v.cost).good;
+            (omega (arith, slice_get_within sections s.section v.section v.there), (a.moves, (a.samples, tt)));
+        good = λ s v. and_from _ _ (lt-ltb _ _ (omega (arith, slice_get_within sections s.section v.section v.there))) (label_written s.so_far v.cost).good;
         there = λ s v.
             let t = v.there in
             let p : from_of (slice_get sections s.section) ≡ s.from = ap from_of t ∙ sym v.from in

@@ -1,6 +1,7 @@
 -- An answer without a fault is one that a page can hold.
 use Rattle.std.proofs.Common.{◌≡◌, ℕ, ◌+◌, ◌*◌, ◌^◌, ◌<◌, ◌≤◌, Bool, true, false, cond, not, ◌&&◌, eqb, ltb, leb, List, [], ◌∷◌, length, is_some, Some, None, Option, sym, refl, ap, ◌∙◌, ap₂, arith}
 use Rattle.std.specs.List.{AllByRecursion, slice_get, position, position_from}
+use Rattle.std.proofs.lemmas.Option.{slice_get_within}
 use Rattle.std.specs.Option.{option_map}
 use Rattle.std.proofs.lemmas.Iterator.Adapters.{position_from-zero}
 use Rattle.std.proofs.ByRecursion.{All-weaker}
@@ -13,7 +14,6 @@ use Rattle.amounts.specs.declared.cost.LabelForm.{LabelForm}
 use Rattle.amounts.specs.Forms.{label_form, OnPage}
 use Rattle.networks.specs.declared.section.Section.{Section}
 use Rattle.networks.specs.Nets.{Net, InRange}
-use Rattle.networks.proofs.Numbers.{below_nth}
 use Rattle.records.specs.Due.{page_fault}
 use Rattle.contents.specs.declared.answer.Outcome.{Outcome}
 use Rattle.contents.specs.declared.answer.Outcome.TheVariants.{Found, NoRoute}
@@ -118,7 +118,7 @@ module _ {C L S : Type 0} (c : cost.Ghosts C L S) (net : Net S) where
         (
           omega (arith, range.few),
           omega arith,
-          All-weaker (StepValid c net.sections) (λ s. s.section < 2 ^ 16) (λ s t. omega (arith, range.short, below_nth net.sections s.section t.section (sym t.there))) m.steps (steps_valid (at + 20) m.steps p.1),
+          All-weaker (StepValid c net.sections) (λ s. s.section < 2 ^ 16) (λ s t. omega (arith, range.short, slice_get_within net.sections s.section t.section t.there)) m.steps (steps_valid (at + 20) m.steps p.1),
         ),
         omega arith,
       )
