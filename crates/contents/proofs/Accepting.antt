@@ -2,8 +2,6 @@
 use Rattle.std.proofs.Common.{◌≡◌, ℕ, suc, ◌+◌, ◌*◌, ◌^◌, ◌<◌, ◌≤◌, true, false, cond, ◌&&◌, eqb, ltb, leb, List, [], ◌∷◌, map, length, get_or, drop, is_ok, Some, None, Ok, Err, Option, Result, sym, refl, ap, ◌∙◌, arith, length-drop, drop-drop}
 use Rattle.std.specs.List.{AllByRecursion}
 use Rattle.std.specs.Option.{unwrap_or}
-use Rattle.std.proofs.ByRecursion.{All-drop}
-use Rattle.std.proofs.lemmas.List.Elements.{All-from_recursion, recursion_from_All, All-map}
 use Rattle.std.proofs.lemmas.List.{length-map}
 use Rattle.std.proofs.lemmas.Bool.{and_parts, eqb-true, ltb-true, leb-true, lt-ltb}
 use Rattle.faults.specs.declared.Fault.{Fault}
@@ -12,6 +10,7 @@ use Rattle.records.specs.Shapes.{Shape, decoded, decoded_run}
 use Rattle.std.specs.Result.{result_and}
 use Rattle.records.specs.Due.{due_record, due_run}
 use Rattle.records.specs.Layout.{header_shape, section_shape, estimate_shape, answer_shape, step_shape}
+use Rattle.records.proofs.Coding.{bytes_drop}
 use Rattle.records.proofs.Passing.{both, Stands, due_stands, RunStands, run_stands, run_fits, length-decoded_run}
 use Rattle.amounts.specs.Forms.{SectionRange, LabelLaws, OnPage, label_form}
 use Rattle.amounts.specs.declared.cost.Cost as cost
@@ -39,9 +38,6 @@ bytes_from_test (b ∷ bs) e = let p = and_parts (ltb b 256) (all_bytes bs) e in
 pub test_from_each : (bs : List ℕ) → ((i : ℕ) → get_or bs i 0 < 256) → all_bytes bs ≡ true
 test_from_each [] h = refl
 test_from_each (b ∷ bs) h = ap (λ t. t && all_bytes bs) (lt-ltb b 256 (h 0)) ∙ test_from_each bs (λ i. h (suc i))
-
-pub bytes_drop : (n : ℕ) (bs : List ℕ) → Bytes bs → Bytes (drop n bs)
-bytes_drop n bs h = All-drop (λ b. b < 256) n bs h
 
 -- Answers --------------------------------------------------------------------------------------
 
@@ -147,13 +143,11 @@ empty_none (b ∷ rest) h = absurd (omega arith)
 -- The meanings are in range ----------------------------------------------------------------------
 
 -- of each element of a run, that it is good and fits gives what it means
-each_meant : {R M : Type 0} (shape : Shape R) (limits : Limits) (from : R → M) (V : M → Type 0) (rs : List R)
+pub each_meant : {R M : Type 0} (shape : Shape R) (limits : Limits) (from : R → M) (V : M → Type 0) (rs : List R)
     → ((r : R) → shape.good limits r ≡ true → Fits shape.widths (shape.fields r) → V (from r))
     → AllByRecursion (λ r. shape.good limits r ≡ true) rs → AllByRecursion (λ r. Fits shape.widths (shape.fields r)) rs → AllByRecursion V (map from rs)
-each_meant shape limits from V rs turns good fit =
-    let all_good = All-from_recursion (λ r. shape.good limits r ≡ true) rs good in
-    let all_fit = All-from_recursion (λ r. Fits shape.widths (shape.fields r)) rs fit in
-    recursion_from_All V (map from rs) (All-map V from rs (λ k d l. turns (get_or rs k d) (all_good k d l) (all_fit k d l)))
+each_meant shape limits from V [] turns good fit = tt
+each_meant shape limits from V (r ∷ rs) turns good fit = (turns r good.0 fit.0, each_meant shape limits from V rs turns good.1 fit.1)
 
 module _ {C L S : Type 0} (c : cost.Ghosts C L S) (kind : ℕ) (bs : List ℕ) (all : Bytes bs) (a : Accepted kind bs) where
   section_range : (kept : (f : SectionForm) → SectionRange f → SectionRange (c.parts (c.made f))) (limits : Limits) (r : SectionRecord) → section_shape.good limits r ≡ true → Fits section_shape.widths (section_shape.fields r) → SectionInRange c.parts limits.stations (section_from c r)

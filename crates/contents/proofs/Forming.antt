@@ -4,7 +4,6 @@ use Rattle.std.proofs.lemmas.Option.{slice_get_cases, slice_get_within}
 use Rattle.std.specs.List.{AllByRecursion, slice_get}
 use Rattle.std.specs.Option.{is_some, unwrap_or}
 use Rattle.std.proofs.lemmas.List.{length-map, drop_at, take-append-drop, nil_from_length}
-use Rattle.std.proofs.ByRecursion.{All-weaker, All-map}
 use Rattle.std.proofs.lemmas.Bool.{and_parts, and_from, eq-eqb, eqb-true, lt-ltb, ltb-true, le-leb, leb-true}
 use Rattle.amounts.specs.declared.cost.Cost as cost
 use Rattle.amounts.specs.declared.cost.LabelForm.{LabelForm}
@@ -24,6 +23,7 @@ use Rattle.records.specs.Shapes.{Shape, ShapeLaws, size_of, decoded_run, encoded
 use Rattle.records.specs.Due.{due_run}
 use Rattle.records.specs.Values.{label_fits}
 use Rattle.records.specs.Layout.{header_shape, section_shape, estimate_shape, answer_shape, step_shape}
+use Rattle.contents.proofs.Accepting.{each_meant}
 use Rattle.records.proofs.Passing.{RunStands, length-encoded_run, run_decoded, run_written, run_fits}
 use Rattle.contents.specs.declared.answer.Outcome.{Outcome}
 use Rattle.contents.specs.declared.answer.Outcome.TheVariants.{Found, NoRoute}
@@ -49,10 +49,12 @@ module _ {R M : Type 0} {shape : Shape R} {limits : Limits} {to : M → R} {from
   GoodAll rs = AllByRecursion (λ r. shape.good limits r ≡ true) rs
 
   all_fit : (ms : List M) → AllByRecursion V ms → FitsAll (map to ms)
-  all_fit ms v = All-map (λ r. Fits shape.widths (shape.fields r)) to ms (All-weaker V (λ m. Fits shape.widths (shape.fields (to m))) turns.fits ms v)
+  all_fit [] v = tt
+  all_fit (m ∷ ms) v = (turns.fits m v.0, all_fit ms v.1)
 
   all_good : (ms : List M) → AllByRecursion V ms → GoodAll (map to ms)
-  all_good ms v = All-map (λ r. shape.good limits r ≡ true) to ms (All-weaker V (λ m. shape.good limits (to m) ≡ true) turns.good ms v)
+  all_good [] v = tt
+  all_good (m ∷ ms) v = (turns.good m v.0, all_good ms v.1)
 
   all_there : (ms : List M) → AllByRecursion V ms → map from (map to ms) ≡ ms
   all_there [] v = refl
@@ -61,10 +63,6 @@ module _ {R M : Type 0} {shape : Shape R} {limits : Limits} {to : M → R} {from
   all_back : (rs : List R) → FitsAll rs → GoodAll rs → map to (map from rs) ≡ rs
   all_back [] f g = refl
   all_back (r ∷ rs) f g = ap₂ (λ y ys. y ∷ ys) (turns.back r f.0 g.0) (all_back rs f.1 g.1)
-
-  all_valid : (rs : List R) → FitsAll rs → GoodAll rs → AllByRecursion V (map from rs)
-  all_valid [] f g = tt
-  all_valid (r ∷ rs) f g = (turns.valid r f.0 g.0, all_valid rs f.1 g.1)
 
   -- a run that is written passes, is read, and is passed over
   pub run_passes : (len n : ℕ) (ms : List M) (rest : List ℕ) → length ms ≡ n → AllByRecursion V ms → due_run shape limits len n (encoded_run shape (map to ms) ++ rest) ≡ Ok tt
@@ -83,7 +81,7 @@ module _ {R M : Type 0} {shape : Shape R} {limits : Limits} {to : M → R} {from
   -- a run that passed is valid, and is written as it stood
   module _ (n : ℕ) (bs : List ℕ) (all : Bytes bs) (stands : RunStands shape limits n bs) where
     pub run_valid : AllByRecursion V (map from (decoded_run shape n bs))
-    run_valid = all_valid (decoded_run shape n bs) (run_fits shape laws n bs all) stands.good
+    run_valid = each_meant shape limits from V (decoded_run shape n bs) (λ r g f. turns.valid r f g) stands.good (run_fits shape laws n bs all)
 
     pub run_back : encoded_run shape (map to (map from (decoded_run shape n bs))) ++ drop (size_of shape * n) bs ≡ bs
     run_back =

@@ -1,10 +1,10 @@
 -- An answer without a fault is one that a page can hold.
-use Rattle.std.proofs.Common.{◌≡◌, ℕ, ◌+◌, ◌*◌, ◌^◌, ◌<◌, ◌≤◌, Bool, true, false, cond, not, ◌&&◌, eqb, ltb, leb, List, [], ◌∷◌, length, is_some, Some, None, Option, sym, refl, ap, ◌∙◌, ap₂, arith}
+use Rattle.std.proofs.Common.{◌≡◌, ℕ, ◌+◌, ◌*◌, ◌<◌, ◌≤◌, Bool, true, false, cond, not, ◌&&◌, eqb, ltb, leb, List, [], ◌∷◌, length, get_or, is_some, Some, None, Option, sym, refl, ap, ◌∙◌, ap₂, arith}
 use Rattle.std.specs.List.{AllByRecursion, slice_get, position, position_from}
 use Rattle.std.proofs.lemmas.Option.{slice_get_within}
 use Rattle.std.specs.Option.{option_map}
 use Rattle.std.proofs.lemmas.Iterator.Adapters.{position_from-zero}
-use Rattle.std.proofs.ByRecursion.{All-weaker}
+use Rattle.std.proofs.lemmas.List.Elements.{All-from_recursion, recursion_from_All}
 use Rattle.std.proofs.lemmas.List.{nil_from_length}
 use Rattle.std.proofs.lemmas.Bool.{and_parts, eqb-true, ltb-true, leb-true}
 use Rattle.faults.specs.declared.Fault.{Fault}
@@ -114,11 +114,12 @@ module _ {C L S : Type 0} (c : cost.Ghosts C L S) (net : Net S) where
   short at None range e = (tt, omega arith)
   short at (Some m) range e =
       let p = none_left (meant_good c net m) (steps_fault c net (at + 20) m.steps) _ e in
-      let q = meant_parts m p.0 in (
+      let q = meant_parts m p.0 in
+      let valid = All-from_recursion (StepValid c net.sections) m.steps (steps_valid (at + 20) m.steps p.1) in (
         (
           omega (arith, range.few),
           omega arith,
-          All-weaker (StepValid c net.sections) (λ s. s.section < 2 ^ 16) (λ s t. omega (arith, range.short, slice_get_within net.sections s.section t.section t.there)) m.steps (steps_valid (at + 20) m.steps p.1),
+          recursion_from_All _ m.steps (λ k d l. let t = valid k d l in omega (arith, range.short, slice_get_within net.sections (get_or m.steps k d).section t.section t.there)),
         ),
         omega arith,
       )

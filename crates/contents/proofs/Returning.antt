@@ -1,7 +1,6 @@
 -- A page's content, written and read back, and a page's bytes, read and written again.
-use Rattle.std.proofs.Common.{◌≡◌, ℕ, ◌+◌, ◌*◌, ◌<◌, ◌≤◌, Bool, true, false, cond, ltb, List, [], ◌∷◌, ◌++◌, map, length, drop, Some, None, Ok, Option, sym, refl, ap, ◌∙◌, ap₂, arith, lit<}
+use Rattle.std.proofs.Common.{◌≡◌, ℕ, ◌+◌, ◌*◌, ◌≤◌, Bool, true, false, cond, ltb, List, [], ◌∷◌, ◌++◌, map, length, drop, Some, None, Ok, Option, sym, refl, ap, ◌∙◌, ap₂, arith, lit<}
 use Rattle.std.proofs.lemmas.List.{length-append, length-map, take-append-drop}
-use Rattle.std.proofs.ByRecursion.{All-append}
 use Rattle.std.proofs.lemmas.Bool.{lt-ltb, cond-true}
 use Rattle.amounts.specs.declared.cost.Cost as cost
 use Rattle.networks.specs.declared.section.Section.{Section}
@@ -14,17 +13,14 @@ use Rattle.records.specs.Shapes.{decoded, encoded, decoded_run, encoded_run}
 use Rattle.std.specs.Result.{result_and}
 use Rattle.records.specs.Due.{due_record, due_run}
 use Rattle.records.specs.Layout.{header_shape, section_shape, estimate_shape, answer_shape, step_shape, end_shape}
+use Rattle.records.proofs.Coding.{bytes_append, bytes_drop}
 use Rattle.records.proofs.Passing.{both, due_stands, length-decoded_run, encoded_all, decoded-encoded, encoded-decoded, decoded_fits, due_written, length-encoded_run, encoded_run_all, run_stands}
 use Rattle.contents.specs.Checks.{header_of, section_bytes, estimate_bytes, answer_bytes, has_answer, step_bytes, step_count, limits_of, limits_for, due_end, due_answer, check_page}
 use Rattle.contents.specs.Content.{Meant, Content, section_from, pair_from, step_from, net_of, pairs_of, meant_by, content_of}
 use Rattle.contents.specs.Encoding.{section_record, estimate_record, step_record, answer_record, header_record, answer_encoded, encode, StepValid, MeantValid, AnswerValid, Valid, PageLaws}
-use Rattle.contents.proofs.Accepting.{bytes_drop}
 use Rattle.contents.proofs.Checking.{answer_ends, page_answer}
 use Rattle.records.specs.Laws.{header_laws, section_laws, estimate_laws, answer_laws, step_laws}
 use Rattle.contents.proofs.Forming.{Turns, run_passes, run_reads, run_after, run_valid, run_back, section_turns, estimate_turns, step_turns, header_fits, header_good, header_read, answer_fits, answer_good, answer_there, answer_back, answer_valid}
-
-bytes_append : (xs ys : List ℕ) → Bytes xs → Bytes ys → Bytes (xs ++ ys)
-bytes_append = All-append (λ b. b < 256)
 
 -- the end of a page
 abbrev end : List ℕ

@@ -4,7 +4,8 @@ use Rattle.amounts.specs.declared.cost.Cost as cost
 use Rattle.records.specs.Bytes.{Bytes}
 use Rattle.pages.specs.declared.view.PageView.{PageView}
 use Rattle.contents.specs.Checks.{header_of, section_bytes, estimate_bytes, answer_bytes, has_answer, limits_of}
-use Rattle.contents.proofs.Accepting.{Accepted, accepted, Answered, answered, bytes_from_test, bytes_drop}
+use Rattle.contents.proofs.Accepting.{Accepted, accepted, Answered, answered, bytes_from_test}
+use Rattle.records.proofs.Coding.{bytes_drop}
 
 module _ {C L S : Type 0} {c : cost.Ghosts C L S} (v : PageView C L S c) where
   pub view_bytes : Bytes v.bytes.now

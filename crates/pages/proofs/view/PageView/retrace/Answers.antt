@@ -1,6 +1,7 @@
 use Rattle.std.proofs.Common.{◌*◌, sym, ◌∙◌}
 use Rattle.contents.specs.Checks.{header_of, section_bytes, estimate_bytes}
-use Rattle.contents.proofs.Accepting.{bytes_drop, net_range}
+use Rattle.contents.proofs.Accepting.{net_range}
+use Rattle.records.proofs.Coding.{bytes_drop}
 use Rattle.contents.proofs.Retold.{retold_page}
 use Rattle.pages.proofs.Views.{view_bytes, view_accepted}
 use Rattle.pages.proofs.view.PageView.retrace.Goals as goal
