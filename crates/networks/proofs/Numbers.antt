@@ -1,20 +1,17 @@
 -- What a scan over a list's elements gives of the numbers of those that pass.
-use Rattle.std.proofs.Common.{◌≡◌, ℕ, zero, suc, ◌+◌, ◌-◌, ◌<◌, ◌≤◌, Bool, true, false, cond, List, ◌∷◌, length, drop, replicate, Some, None, Option, sym, ap, ap₂, ◌∙◌, ⊎_elim, add-one, arith}
+use Rattle.std.proofs.Common.{◌≡◌, ℕ, zero, suc, ◌+◌, ◌-◌, ◌<◌, ◌≤◌, Bool, true, false, cond, List, ◌∷◌, length, drop, Some, None, Option, sym, ap, ap₂, ◌∙◌, ⊎_elim, add-one, arith}
 use Rattle.std.proofs.Math.Seq.{drop-cons}
 use Rattle.std.proofs.lemmas.List.{drop_all}
 use Rattle.std.proofs.lemmas.Option.{slice_get_within, slice_get_cases, get_or_from_slice_get, none-some}
-use Rattle.std.specs.List.{AllByRecursion, slice_get}
+use Rattle.std.specs.List.{slice_get}
 use Rattle.networks.specs.Nets.{numbers}
 
 module _ {X : Type 0} where
-  pub below_nth : (xs : List X) (i : ℕ) (x : X) → Some x ≡ slice_get xs i → i < length xs
-  below_nth xs i x e = slice_get_within xs i x (sym e)
-
   pub past_nth : (xs : List X) (i : ℕ) → None ≡ slice_get xs i → length xs ≤ i
   past_nth xs i e = ⊎_elim (λ p. absurd (none-some p.0 (e ∙ p.2))) (λ p. p.0) (slice_get_cases xs i).1
 
   pub drop_nth : (xs : List X) (i : ℕ) (x : X) → Some x ≡ slice_get xs i → drop i xs ≡ x ∷ drop (i + 1) xs
-  drop_nth xs i x e = drop-cons xs i x (below_nth xs i x e) ∙ ap₂ (λ y n. y ∷ drop n xs) (get_or_from_slice_get xs i x x (sym e)) (sym (add-one i))
+  drop_nth xs i x e = drop-cons xs i x (slice_get_within xs i x (sym e)) ∙ ap₂ (λ y n. y ∷ drop n xs) (get_or_from_slice_get xs i x x (sym e)) (sym (add-one i))
 
   -- what stands at suc k, where a goal has k for k - 1
   nth_more : (y : X) (ys : List X) (k : ℕ) → 0 < k → slice_get (y ∷ ys) k ≡ slice_get ys (k - 1)
@@ -44,7 +41,3 @@ module _ {X : Type 0} (test : X → Bool) (xs : List X) (i : ℕ) where
 
   pub coming_other : (x : X) → Some x ≡ slice_get xs i → test x ≡ false → (k : ℕ) → coming test xs (i + 1) k ≡ coming test xs i k
   coming_other x e t k = sym (ap (λ l. slice_get l k) (at test xs i x e ∙ ap (λ b. cond b (i ∷ rest test xs i) (rest test xs i)) t))
-
-pub all_replicate : {X : Type 0} (P : X → Type 0) (n : ℕ) (x : X) → P x → AllByRecursion P (replicate n x)
-all_replicate P zero x h = tt
-all_replicate P (suc n) x h = (h, all_replicate P n x h)

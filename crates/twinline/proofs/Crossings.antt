@@ -1,8 +1,9 @@
 -- Which sections of a twin line go across at a station.
 use denote.Enum.Bare.{sameb}
-use Rattle.std.proofs.Common.{◌≡◌, ℕ, ◌+◌, ◌-◌, ◌*◌, ◌/◌, ◌%◌, ◌<◌, ◌≤◌, Bool, true, false, cond, Some, None, Option, sym, ap, ◌∙◌, ⊎_elim, div-add-mod', le-div_iff_mul-le, arith}
+use Rattle.std.proofs.Common.{◌≡◌, ℕ, ◌+◌, ◌-◌, ◌*◌, ◌/◌, ◌%◌, ◌<◌, ◌≤◌, Bool, true, false, cond, Some, None, Option, sym, ap, ◌∙◌, ⊎_elim, div-add-mod', arith}
 use native.Mathlib.Nat.{div-eq_of_eq-mul_left, mul-mod_left}
 use Rattle.std.proofs.lemmas.Bool.{le-ltb, eq-eqb, ne_eqb, eqb-true, eqb-false, cases_Bool}
+use Rattle.std.proofs.lemmas.Nat.{le-div}
 use Rattle.std.proofs.lemmas.Option.{none-some, same_Some}
 use Rattle.std.proofs.lemmas.Bool.Decides.{nat_tests}
 use Rattle.faults.specs.declared.Side.{Side}
@@ -36,7 +37,7 @@ module _ (t : Line) (r : LineRange t) (place : ℕ) where
     back = omega (arith, div-add-mod' place k)
 
     few : q ≤ along t / k
-    few = let pos : 0 < k = omega arith in (le-div_iff_mul-le {k = k} {x = q} {y = along t} pos).1 (omega (arith, back))
+    few = le-div q (along t) k (omega arith) (omega (arith, back))
 
     quotient : (m : ℕ) → cross_place t m ≡ place → q ≡ (m - 2 * along t) / 2
     quotient m e = let pos : 0 < k = omega arith in div-eq_of_eq-mul_left {n = k} {m = place} {k = (m - 2 * along t) / 2} pos (sym e)

@@ -1,6 +1,7 @@
 -- What is worked out by number is what is drawn.
-use Rattle.std.proofs.Common.{◌≡◌, ℕ, ◌+◌, ◌-◌, ◌*◌, ◌/◌, ◌%◌, ◌<◌, ◌≤◌, ◌↔◌, Some, None, sym, refl, ap, ◌∙◌, subst, subst₂, ⊎_elim, le-div_iff_mul-le, arith}
+use Rattle.std.proofs.Common.{◌≡◌, ℕ, ◌+◌, ◌-◌, ◌*◌, ◌/◌, ◌%◌, ◌<◌, ◌≤◌, ◌↔◌, Some, None, sym, refl, ap, ◌∙◌, subst, subst₂, ⊎_elim, arith}
 use Rattle.std.proofs.lemmas.Bool.{lt-ltb, le-ltb, eq-eqb, ne_eqb, cases_lt, cases_eq}
+use Rattle.std.proofs.lemmas.Nat.{le-div}
 use Rattle.std.proofs.lemmas.Option.{none-some, same_Some}
 use Rattle.amounts.specs.Forms.{section_form}
 use Rattle.amounts.specs.declared.cost.SectionForm.{SectionForm}
@@ -46,7 +47,7 @@ module _ {S : Type 0} (made : SectionForm → S) (t : Line) (r : LineRange t) wh
 
   -- a multiple of the spacing on the line is one of the crossings
   few : (j : ℕ) → j * t.spacing < t.count → j ≤ along t / t.spacing
-  few j h = let pos : 0 < t.spacing = omega arith in (le-div_iff_mul-le {k = t.spacing} {x = j} {y = along t} pos).1 (omega arith)
+  few j h = le-div j (along t) t.spacing (omega arith) (omega arith)
 
   pub at_drawn : (n : ℕ) (s : Section S) → Drawn made t n s → (n < section_count t) × (numbered made t n ≡ s)
   at_drawn n s (upper_run i h) = (omega arith, at_upper i (omega arith))
