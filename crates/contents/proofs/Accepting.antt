@@ -1,4 +1,5 @@
 -- What an accepted page holds, whatever the kind it was read for.
+use Rattle.std.proofs.lemmas.Grind.{common_steps}
 use Rattle.std.proofs.Common.{◌≡◌, ℕ, suc, ◌+◌, ◌*◌, ◌^◌, ◌<◌, ◌≤◌, true, false, cond, ◌&&◌, eqb, ltb, leb, List, [], ◌∷◌, map, length, get_or, drop, is_ok, Some, None, Ok, Err, Option, Result, sym, refl, ap, ◌∙◌, arith, length-drop, drop-drop}
 use Rattle.std.specs.List.{AllByRecursion}
 use Rattle.std.specs.Option.{unwrap_or}
@@ -103,9 +104,7 @@ module _ (kind : ℕ) (bs : List ℕ) (a : Accepted kind bs) where
 
 -- where an answer stands, by its offset
 pub answer_place : (bs : List ℕ) → drop (10 + 12 * (header_of bs).sections + 21 * (header_of bs).stations) bs ≡ answer_bytes bs
-answer_place bs =
-    let n = (header_of bs).sections in
-    sym (ap (drop (21 * (header_of bs).stations)) (drop-drop (12 * n) 10 bs) ∙ drop-drop (21 * (header_of bs).stations) (10 + 12 * n) bs)
+answer_place bs = simp (drop-drop)
 
 -- an answer that is there is all there, with its steps
 pub record Answered (limits : Limits) (rest : List ℕ) : Type 0 where
@@ -128,12 +127,10 @@ answered limits len rest all there ok =
 
 -- the answer's record, or that there is none
 pub answer_there : (bs rest : List ℕ) (r : Option AnswerRecord) → rest ≡ answer_bytes bs → has_answer rest ≡ true → r ≡ Some (decoded answer_shape rest) → r ≡ cond (has_answer (answer_bytes bs)) (Some (decoded answer_shape (answer_bytes bs))) None
-answer_there bs rest r e h i =
-    i ∙ ap (λ b. cond b (Some (decoded answer_shape rest)) None) (sym h) ∙ ap (λ l. cond (has_answer l) (Some (decoded answer_shape l)) None) e
+answer_there bs rest r e h i = grind (arith, common_steps)
 
 pub answer_absent : (bs rest : List ℕ) → rest ≡ answer_bytes bs → has_answer rest ≡ false → None ≡ cond (has_answer (answer_bytes bs)) (Some (decoded answer_shape (answer_bytes bs))) None
-answer_absent bs rest e h =
-    ap (λ b. cond b (Some (decoded answer_shape rest)) None) (sym h) ∙ ap (λ l. cond (has_answer l) (Some (decoded answer_shape l)) None) e
+answer_absent bs rest e h = grind (arith, common_steps)
 
 -- no byte is no answer
 pub empty_none : (rest : List ℕ) → length rest < 1 → has_answer rest ≡ false

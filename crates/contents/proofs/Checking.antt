@@ -1,5 +1,5 @@
 -- The checks of a page, one after another.
-use Rattle.std.proofs.Common.{◌≡◌, ℕ, ◌*◌, true, cond, List, length, drop, Ok, Err, Result, sym, ap, ◌∙◌}
+use Rattle.std.proofs.Common.{◌≡◌, ℕ, ◌*◌, true, List, length, drop, Ok, Err, Result, sym, ap, ◌∙◌}
 use Rattle.faults.specs.declared.Fault.{Fault}
 use Rattle.records.specs.declared.limits.Limits.{Limits}
 use Rattle.records.specs.declared.kinds.AnswerRecord.{AnswerRecord}
@@ -9,7 +9,7 @@ use Rattle.std.specs.Result.{result_and}
 use Rattle.records.specs.Due.{due_record, due_run}
 use Rattle.records.specs.Layout.{header_shape, section_shape, estimate_shape, answer_shape, step_shape}
 use Rattle.records.proofs.Passing.{due_stands}
-use Rattle.contents.specs.Checks.{header_of, section_bytes, has_answer, step_bytes, step_count, limits_of, limits_for, due_end, due_answer, check_page}
+use Rattle.contents.specs.Checks.{header_of, section_bytes, has_answer, step_bytes, limits_of, limits_for, due_end, due_answer, check_page}
 
 -- a record that passed is the one that stands there
 pub due_is : {R : Type 0} (shape : Shape R) (limits : Limits) (len : ℕ) (bs : List ℕ) (r : R) → Ok r ≡ due_record shape limits len bs → decoded shape bs ≡ r
@@ -17,19 +17,13 @@ due_is shape limits len bs r e = sym (due_stands shape limits len bs r (sym e)).
 
 module _ (limits : Limits) (len : ℕ) (rest : List ℕ) (a : AnswerRecord) (there : has_answer rest ≡ true) (due : Ok a ≡ due_record answer_shape limits len rest) where
   answer_at : due_answer limits len rest ≡ result_and (due_run step_shape limits len a.steps (step_bytes rest)) (due_end limits len (drop (13 * a.steps) (step_bytes rest)))
-  answer_at =
-      let same = due_is answer_shape limits len rest a due in
-      ap (λ b. cond b (result_and (due_record answer_shape limits len rest) (result_and (due_run step_shape limits len (step_count rest) (step_bytes rest)) (due_end limits len (drop (13 * step_count rest) (step_bytes rest))))) (due_end limits len rest)) there
-      ∙ ap (λ d. result_and d (result_and (due_run step_shape limits len (step_count rest) (step_bytes rest)) (due_end limits len (drop (13 * step_count rest) (step_bytes rest))))) (sym due)
-      ∙ ap (λ x. result_and (due_run step_shape limits len x.steps (step_bytes rest)) (due_end limits len (drop (13 * x.steps) (step_bytes rest)))) same
+  answer_at = rw (there, ← due, ← due_is answer_shape limits len rest a due)
 
   pub answer_stops : (f : Fault) (steps : List ℕ) → steps ≡ step_bytes rest → Err f ≡ due_run step_shape limits len a.steps steps → Err f ≡ due_answer limits len rest
-  answer_stops f steps s e = sym (answer_at ∙ ap (λ d. result_and d (due_end limits len (drop (13 * a.steps) (step_bytes rest)))) (sym (e ∙ ap (due_run step_shape limits len a.steps) s)))
+  answer_stops f steps s e = rw (answer_at, ← s, ← e)
 
   pub answer_ends : (steps left : List ℕ) → steps ≡ step_bytes rest → Ok tt ≡ due_run step_shape limits len a.steps steps → left ≡ drop (13 * a.steps) steps → due_end limits len left ≡ due_answer limits len rest
-  answer_ends steps left s e l =
-      ap (due_end limits len) (l ∙ ap (drop (13 * a.steps)) s)
-      ∙ sym (answer_at ∙ ap (λ d. result_and d (due_end limits len (drop (13 * a.steps) (step_bytes rest)))) (sym (e ∙ ap (due_run step_shape limits len a.steps) s)))
+  answer_ends steps left s e l = rw (l, s, answer_at, ← s, ← e)
 
 -- a page by its header
 module _ (kind : ℕ) (bs : List ℕ) (h : HeaderRecord) (due : Ok h ≡ due_record header_shape (limits_for kind) (length bs) bs) where

@@ -1,5 +1,6 @@
 -- Records by their places on a page.
-use Rattle.std.proofs.Common.{◌≡◌, ℕ, ◌+◌, ◌-◌, ◌*◌, ◌<◌, ◌≤◌, List, length, drop, Some, None, Option, sym, ap, ◌∙◌, mul-le-mul_left, mul-one, mul-add, arith, length-drop, drop-drop, MatchOption}
+use Rattle.std.proofs.lemmas.Grind.{common_steps}
+use Rattle.std.proofs.Common.{◌≡◌, ℕ, ◌+◌, ◌-◌, ◌*◌, ◌<◌, ◌≤◌, List, length, drop, Some, None, Option, sym, ap, ◌∙◌, arith, length-drop, drop-drop, MatchOption}
 use Rattle.std.specs.List.{slice_get}
 use Rattle.records.specs.Shapes.{Shape, size_of, decoded, decoded_run}
 use Rattle.std.proofs.lemmas.Option.{slice_get_within}
@@ -7,9 +8,7 @@ use Rattle.records.proofs.Passing.{nth_run}
 
 -- the k-th of the records has room
 pub room : (from size count k len : ℕ) → k < count → from + size * count ≤ len → from + size * k + size ≤ len
-room from size count k len h l =
-    let m : size * (k + 1) ≤ size * count = mul-le-mul_left size (omega arith) in
-    omega (arith, mul-add size k 1, mul-one size)
+room from size count k len h l = grind (arith, common_steps)
 
 -- so has a record of a run that has room
 pub row_room : {R : Type 0} (shape : Shape R) (at : ℕ) (rs : List R) (k : ℕ) (r : R) (len : ℕ) → Some r ≡ slice_get rs k → at + size_of shape * length rs ≤ len → at + size_of shape * k + size_of shape ≤ len

@@ -1,5 +1,6 @@
 -- An answer's steps, walked one at a time.
-use Rattle.std.proofs.Common.{◌≡◌, ℕ, ◌+◌, ◌≤◌, Bool, true, false, ◌&&◌, eqb, List, length, drop, Some, Option, sym, ap, ◌∙◌}
+use Rattle.std.proofs.lemmas.Grind.{common_steps}
+use Rattle.std.proofs.Common.{arith, ◌≡◌, ℕ, ◌+◌, ◌≤◌, Bool, true, false, ◌&&◌, eqb, List, length, drop, Some, Option, sym, ap, ◌∙◌}
 use Rattle.std.specs.List.{slice_get}
 use Rattle.std.proofs.lemmas.List.{drop_all}
 use Rattle.amounts.specs.declared.cost.Cost as cost
@@ -35,11 +36,8 @@ module _ {C L S : Type 0} (c : cost.Ghosts C L S) (net : Net S) (o : Option (Mea
   retraced_by : (x : Outcome) → f.outcome ≡ x → walked c net x f.cost (steps_in o) ≡ retraced c net o
   retraced_by x e =
       let p = filed_some o f told in
-      let m = p.0 in
-      ap (λ q. walked c net x f.cost (steps_in q)) p.1
-      ∙ ap (λ a. walked c net x a m.steps) (ap (λ g. g.cost) p.2)
-      ∙ ap (λ y. walked c net y m.cost m.steps) (sym e ∙ ap (λ g. g.outcome) p.2)
-      ∙ sym (ap (retraced c net) p.1)
+      let q = p.2 in
+      rw p.1 (grind (arith, common_steps))
 
   pub retraced_found : f.outcome ≡ Found → walks c net net.launcher c.ops.zero f.cost (steps_in o) ≡ retraced c net o
   retraced_found e = retraced_by Found e
