@@ -44,12 +44,6 @@ module _ (kind : ℕ) (bs : List ℕ) (h : HeaderRecord) (due : Ok h ≡ due_rec
   -- all of it passed but the answer
   pub page_answer : (sections estimates left : List ℕ) → sections ≡ section_bytes bs → Ok tt ≡ due_run section_shape (limits_of kind h) (length bs) h.sections sections → estimates ≡ drop (12 * h.sections) sections → Ok tt ≡ due_run estimate_shape (limits_of kind h) (length bs) h.stations estimates → left ≡ drop (21 * h.stations) estimates → due_answer (limits_of kind h) (length bs) left ≡ check_page kind bs
   page_answer sections estimates left s p e q l =
-      let limits = limits_of kind h in
-      let len = length bs in
-      let estimates' = drop (12 * h.sections) (section_bytes bs) in
-      let es : estimates ≡ estimates' = e ∙ ap (drop (12 * h.sections)) s in
-      let answer = due_answer limits len (drop (21 * h.stations) estimates') in
-      ap (due_answer limits len) (l ∙ ap (drop (21 * h.stations)) es)
-      ∙ ap (λ d. result_and d answer) (q ∙ ap (due_run estimate_shape limits len h.stations) es)
-      ∙ ap (λ d. result_and d (result_and (due_run estimate_shape limits len h.stations estimates') answer)) (p ∙ ap (due_run section_shape limits len h.sections) s)
-      ∙ sym page_at
+      let p' = rw s at p in
+      let q' = rw (e, s) at q in
+      rw (l, e, s, page_at, ← p', ← q')
