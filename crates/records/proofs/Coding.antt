@@ -58,8 +58,8 @@ bytes_number (suc w) i bs all h =
 -- the bytes of fields
 pub length-body : (ws vs : List ℕ) → length (body_of ws vs) ≡ width_of ws
 length-body [] vs = refl
-length-body (w ∷ ws) [] = length-append (bytes_of w 0) (body_of ws []) ∙ ap₂ (λ m n. m + n) (length-bytes w 0) (length-body ws [])
-length-body (w ∷ ws) (v ∷ vs) = length-append (bytes_of w v) (body_of ws vs) ∙ ap₂ (λ m n. m + n) (length-bytes w v) (length-body ws vs)
+length-body (w ∷ ws) [] = simp (length-append, length-bytes, length-body ws [])
+length-body (w ∷ ws) (v ∷ vs) = simp (length-append, length-bytes, length-body ws vs)
 
 pub body_all : (ws vs : List ℕ) → Bytes (body_of ws vs)
 body_all [] vs = tt

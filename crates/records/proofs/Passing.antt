@@ -1,8 +1,9 @@
 -- Records and runs of them, to bytes and back, and what stands where one passed.
+use Rattle.std.proofs.lemmas.Grind.{common_steps}
 use Rattle.std.proofs.Common.{◌≡◌, ℕ, zero, suc, ◌+◌, ◌*◌, ◌<◌, ◌≤◌, Bool, true, false, cond, eqb, ltb, List, [], ◌∷◌, ◌++◌, length, get_or, take, drop, Some, None, Ok, Err, Result, sym, refl, ap, ◌∙◌, ap₂, append_assoc, mul-zero, mul-suc, arith, length-append, length-drop, drop-drop, take-add, drop_at}
 use Rattle.std.specs.List.{AllByRecursion, slice_get}
 use Rattle.std.proofs.lemmas.Option.{slice_get_past}
-use Rattle.std.proofs.lemmas.Bool.{le-ltb, eq-eqb, ltb-false, eqb-true}
+use Rattle.std.proofs.lemmas.Bool.{ltb-false, eqb-true}
 use Rattle.faults.specs.declared.Fault.{Fault}
 use Rattle.records.specs.declared.limits.Limits.{Limits}
 use Rattle.records.specs.Bytes.{fields_at, body_of, width_of, Fits, Bytes}
@@ -88,9 +89,7 @@ module _ {R : Type 0} (shape : Shape R) (laws : ShapeLaws shape) where
 
   -- where a record is due
   pub due_written : (limits : Limits) (len : ℕ) (r : R) (rest : List ℕ) → Fits shape.widths (shape.fields r) → shape.good limits r ≡ true → due_record shape limits len (encoded shape r ++ rest) ≡ Ok r
-  due_written limits len r rest f g =
-      let l : size_of shape ≤ length (encoded shape r ++ rest) = omega (arith, length-append (encoded shape r) rest, length-encoded r) in
-      rw (eq-eqb shape.byte shape.byte refl, le-ltb _ _ l, decoded-encoded r rest f, g)
+  due_written limits len r rest f g = grind (arith, common_steps, length-append, length-encoded, decoded-encoded)
 
   -- a run's bytes
   pub length-encoded_run : (rs : List R) → length (encoded_run shape rs) ≡ size_of shape * length rs
@@ -107,9 +106,7 @@ module _ {R : Type 0} (shape : Shape R) (laws : ShapeLaws shape) where
   run_decoded [] rest f = refl
   run_decoded (r ∷ rs) rest f =
       let more : List ℕ = encoded_run shape rs ++ rest in
-      ap (decoded_run shape (length (r ∷ rs))) (append_assoc (encoded shape r) (encoded_run shape rs) rest)
-      ∙ ap₂ (λ q qs. q ∷ qs) (decoded-encoded r more f.0)
-      (ap (decoded_run shape (length rs)) (drop_at (encoded shape r) more (size_of shape) (length-encoded r)) ∙ run_decoded rs rest f.1)
+      rw (append_assoc (encoded shape r) (encoded_run shape rs) rest, decoded-encoded r more f.0, drop_at (encoded shape r) more (size_of shape) (length-encoded r), run_decoded rs rest f.1)
 
   pub run_fits : (n : ℕ) (bs : List ℕ) → Bytes bs → AllByRecursion (λ r. Fits shape.widths (shape.fields r)) (decoded_run shape n bs)
   run_fits zero bs all = tt
