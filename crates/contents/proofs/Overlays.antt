@@ -54,7 +54,7 @@ take_nth xs i x h e = take_more xs i x h ∙ ap (λ y. take i xs ++ (y ∷ [])) 
 module _ {R : Type 0} (shape : Shape R) (laws : ShapeLaws shape) where
   run_push : (rs : List R) (r : R) → encoded_run shape (rs ++ (r ∷ [])) ≡ encoded_run shape rs ++ encoded shape r
   run_push [] r = append-nil (encoded shape r)
-  run_push (q ∷ rs) r = ap (λ l. encoded shape q ++ l) (run_push rs r) ∙ sym (append_assoc (encoded shape q) (encoded_run shape rs) (encoded shape r))
+  run_push (q ∷ rs) r = rw (run_push rs r, append_assoc)
 
   -- one record more
   pub run_step : (page : List ℕ) (at i : ℕ) (rs : List R) (r : R) (held : List ℕ) (place : ℕ)
@@ -67,6 +67,4 @@ module _ {R : Type 0} (shape : Shape R) (laws : ShapeLaws shape) where
       let m : length front ≡ i = length-take-le i rs (omega arith) in
       let l : length (encoded_run shape front) ≡ size_of shape * i = n ∙ ap (λ k. size_of shape * k) m in
       let less : size_of shape * i ≤ size_of shape * length rs = mul-le-mul_left (size_of shape) (omega arith) in
-      ap (λ b. overlay b place (encoded shape r)) p
-      ∙ overlay_more page at (encoded_run shape front) (encoded shape r) place (omega arith) (omega arith)
-      ∙ ap (overlay page at) (sym (ap (encoded_run shape) (take_nth rs i r h q) ∙ run_push front r))
+      rw (p, overlay_more page at (encoded_run shape front) (encoded shape r) place (omega arith) (omega arith), ← run_push front r, ← take_nth rs i r h q)

@@ -1,6 +1,7 @@
 -- An answer's steps, walked one at a time.
 use Rattle.std.proofs.lemmas.Grind.{common_steps}
-use Rattle.std.proofs.Common.{arith, ◌≡◌, ℕ, ◌+◌, ◌≤◌, Bool, true, false, ◌&&◌, eqb, List, length, drop, Some, Option, sym, ap, ◌∙◌}
+use Rattle.std.proofs.lemmas.Grind.{common_steps}
+use Rattle.std.proofs.Common.{arith, ◌≡◌, ℕ, ◌+◌, ◌≤◌, Bool, true, false, ◌&&◌, eqb, List, length, drop, Some, Option}
 use Rattle.std.specs.List.{slice_get}
 use Rattle.std.proofs.lemmas.List.{drop_all}
 use Rattle.amounts.specs.declared.cost.Cost as cost
@@ -20,16 +21,16 @@ module _ {C L S : Type 0} (c : cost.Ghosts C L S) (net : Net S) (total : L) (ste
   left = walks c net u a total (drop k steps)
 
   walk_at : (s : Step L) → Some s ≡ slice_get steps k → left ≡ (step_right c u a s (slice_get net.sections s.section) && walks c net s.to s.so_far total (drop (k + 1) steps))
-  walk_at s e = ap (walks c net u a total) (drop_nth steps k s e)
+  walk_at s e = rw (drop_nth steps k s e)
 
   pub walk_more : (s : Step L) → Some s ≡ slice_get steps k → true ≡ step_right c u a s (slice_get net.sections s.section) → walks c net s.to s.so_far total (drop (k + 1) steps) ≡ left
-  walk_more s e r = sym (walk_at s e ∙ ap (λ b. b && walks c net s.to s.so_far total (drop (k + 1) steps)) (sym r))
+  walk_more s e r = rw (walk_at s e, ← r)
 
   pub walk_stops : (s : Step L) → Some s ≡ slice_get steps k → false ≡ step_right c u a s (slice_get net.sections s.section) → false ≡ left
-  walk_stops s e r = sym (walk_at s e ∙ ap (λ b. b && walks c net s.to s.so_far total (drop (k + 1) steps)) (sym r))
+  walk_stops s e r = rw (walk_at s e, ← r)
 
   pub walk_all : length steps ≤ k → left ≡ (eqb u net.trap && same c a total)
-  walk_all h = ap (walks c net u a total) (drop_all k steps h)
+  walk_all h = rw (drop_all k steps h)
 
 -- an answer is retraced by its outcome
 module _ {C L S : Type 0} (c : cost.Ghosts C L S) (net : Net S) (o : Option (Meant L)) (f : Answer L ℕ) (told : Some f ≡ option_map filed_by o) where
