@@ -40,6 +40,15 @@ pub test_from_each : (bs : List ℕ) → ((i : ℕ) → get_or bs i 0 < 256) →
 test_from_each [] h = refl
 test_from_each (b ∷ bs) h = ap (λ t. t && all_bytes bs) (lt-ltb b 256 (h 0)) ∙ test_from_each bs (λ i. h (suc i))
 
+pub section_bytes_all : (bs : List ℕ) → Bytes bs → Bytes (section_bytes bs)
+section_bytes_all bs all = bytes_drop 10 bs all
+
+pub estimate_bytes_all : (bs : List ℕ) → Bytes bs → Bytes (estimate_bytes bs)
+estimate_bytes_all bs all = bytes_drop (12 * (header_of bs).sections) (section_bytes bs) (section_bytes_all bs all)
+
+pub answer_bytes_all : (bs : List ℕ) → Bytes bs → Bytes (answer_bytes bs)
+answer_bytes_all bs all = bytes_drop (21 * (header_of bs).stations) (estimate_bytes bs) (estimate_bytes_all bs all)
+
 -- Answers --------------------------------------------------------------------------------------
 
 pub ok_is : {A : Type 0} (r : Result A Fault) → is_ok r ≡ true → (a : A) × (r ≡ Ok a)
@@ -68,11 +77,10 @@ accepted kind bs all ok =
     let q = both sections (result_and estimates answer) whole.0 p.2 in
     let r = both estimates answer whole.0 q.2 in
     let stands = due_stands header_shape (limits_for kind) len bs p.0 p.1 in
-    let all₁ = bytes_drop 10 bs all in
     record {
       header = record { fits = stands.fits; kinded = stands.kinded; is = refl; good = stands.good };
-      sections = run_stands section_shape section_laws limits len h.sections (section_bytes bs) all₁ q.1;
-      estimates = run_stands estimate_shape estimate_laws limits len h.stations (estimate_bytes bs) (bytes_drop (12 * h.sections) (section_bytes bs) all₁) r.1;
+      sections = run_stands section_shape section_laws limits len h.sections (section_bytes bs) (section_bytes_all bs all) q.1;
+      estimates = run_stands estimate_shape estimate_laws limits len h.stations (estimate_bytes bs) (estimate_bytes_all bs all) r.1;
       answer = ap is_ok r.2;
     }
 
@@ -103,8 +111,8 @@ module _ (kind : ℕ) (bs : List ℕ) (a : Accepted kind bs) where
   estimates_there = omega (arith, a.header.fits, a.sections.fits, a.estimates.fits, length-drop 10 bs, length-drop (12 * (header_of bs).sections) (section_bytes bs))
 
 -- where an answer stands, by its offset
-pub answer_place : (bs : List ℕ) → drop (10 + 12 * (header_of bs).sections + 21 * (header_of bs).stations) bs ≡ answer_bytes bs
-answer_place bs = simp (drop-drop)
+pub answer_place : (bs rest : List ℕ) (at : ℕ) → rest ≡ drop at bs → at ≡ 10 + 12 * (header_of bs).sections + 21 * (header_of bs).stations → rest ≡ answer_bytes bs
+answer_place bs rest at e p = rw (e, p) (simp drop-drop)
 
 -- an answer that is there is all there, with its steps
 pub record Answered (limits : Limits) (rest : List ℕ) : Type 0 where
@@ -168,7 +176,7 @@ module _ {C L S : Type 0} (c : cost.Ghosts C L S) (kind : ℕ) (bs : List ℕ) (
       let s = and_parts (leb h.sections 16384) _ r.1 in
       let t = and_parts (ltb h.launcher h.stations) _ s.1 in
       let run = decoded_run section_shape h.sections (section_bytes bs) in
-      let fit = run_fits section_shape section_laws h.sections (section_bytes bs) (bytes_drop 10 bs all) in
+      let fit = run_fits section_shape section_laws h.sections (section_bytes bs) (section_bytes_all bs all) in
       record {
         some = leb-true 1 h.stations q.0;
         few = leb-true h.stations 4096 r.0;
@@ -196,5 +204,5 @@ module _ {C L S : Type 0} (c : cost.Ghosts C L S) (kind : ℕ) (bs : List ℕ) (
         let h = header_of bs in
         let limits = limits_of kind h in
         let run = decoded_run estimate_shape h.stations (estimate_bytes bs) in
-        let fit = run_fits estimate_shape estimate_laws h.stations (estimate_bytes bs) (bytes_drop (12 * h.sections) (section_bytes bs) (bytes_drop 10 bs all)) in
+        let fit = run_fits estimate_shape estimate_laws h.stations (estimate_bytes bs) (estimate_bytes_all bs all) in
         each_meant estimate_shape limits (pair_from c) (PairInRange c.shown) run (pair_range limits) a.estimates.good fit

@@ -31,7 +31,7 @@ answer_is bs a e = sym (cond_some (has_answer (answer_bytes bs)) (decoded answer
 
 -- the steps' records, by their offset
 pub steps_read : (bs : List ℕ) (at n count k : ℕ) (r : Option StepRecord) → r ≡ slice_get (decoded_run step_shape n (drop (at + 20) bs)) k → at ≡ 10 + 12 * (header_of bs).sections + 21 * (header_of bs).stations → n ≡ count → r ≡ slice_get (decoded_run step_shape count (step_bytes (answer_bytes bs))) k
-steps_read bs at n count k r e p q = rw (e, p, q, ← answer_place bs) (simp drop-drop)
+steps_read bs at n count k r e p q = rw (e, q, ← answer_place bs (drop at bs) at refl p) (simp drop-drop)
 
 module _ {C L S : Type 0} (c : cost.Ghosts C L S) (bs : List ℕ) where
   -- what an answer's record and its steps mean
