@@ -1,8 +1,8 @@
-use Rattle.std.proofs.Common.{◌≡◌, ◌≤◌, true, length, get_or, drop, sym, ap, ◌∙◌, arith, rules}
+use Rattle.std.proofs.Common.{◌≡◌, ◌≤◌, true, length, get_or, sym, ap, ◌∙◌, arith, rules}
 use Rattle.std.proofs.lemmas.Bool.{eq-eqb, ne_eqb}
 use Rattle.records.specs.Layout.{answer_shape}
 use Rattle.records.specs.Shapes.{size_of}
-use Rattle.contents.specs.Checks.{answer_bytes, has_answer}
+use Rattle.contents.specs.Checks.{has_answer}
 use Rattle.contents.proofs.Accepting.{answer_place, answer_there, answer_absent, empty_none}
 use Rattle.contents.proofs.Places.{front_is}
 use Rattle.pages.proofs.Views.{view_answered}
