@@ -1,5 +1,5 @@
 -- What a write leaves on the page, and that it reads back.
-use Rattle.std.proofs.Common.{◌≡◌, ℕ, ◌+◌, ◌*◌, ◌≤◌, Bool, true, false, cond, eqb, ltb, List, ◌++◌, map, length, take, drop, Some, None, Ok, Err, Option, sym, refl, ap, ◌∙◌, ap₂, arith}
+use Rattle.std.proofs.Common.{◌≡◌, ℕ, ◌+◌, ◌*◌, ◌≤◌, Bool, true, false, cond, eqb, ltb, List, ◌++◌, map, length, take, drop, Some, None, Ok, Err, Option, sym, refl, ◌∙◌, ap₂, arith}
 use Rattle.std.proofs.lemmas.List.{length-map, take_at}
 use Rattle.std.proofs.lemmas.Bool.{eqb-true, eq-eqb, ltb-false, le-ltb}
 use Rattle.faults.specs.declared.Fault.{Fault}
@@ -109,6 +109,6 @@ module _ {C L S : Type 0} (c : cost.Ghosts C L S) where
 
       pub write_back : PageLaws c → Valid c x → Back c x (take n after)
       write_back laws v =
-          let front : take n after ≡ encode c x = ap (take n) stands ∙ take_at (encode c x) (drop (length (encode c x)) page) n (sym encoded_size) in
+          let front : take n after ≡ encode c x = rw stands (take_at (encode c x) (drop (length (encode c x)) page) n (sym encoded_size)) in
           let p = written_reads c laws x v in
           rw front (record { accepted = p.0; same = p.1 })
