@@ -99,18 +99,9 @@ number_flag zero h = refl
 number_flag (suc zero) h = refl
 number_flag (suc (suc n)) h = absurd (omega arith)
 
-pub outcome_number_lem : (o : Outcome) → outcome_by (outcome_number o) ≡ o
-outcome_number_lem Found = refl
-outcome_number_lem NoRoute = refl
-
 outcome_small : (o : Outcome) → outcome_number o ≤ 1
 outcome_small Found = lit≤ tt
 outcome_small NoRoute = lit≤ tt
-
-pub number_outcome : (n : ℕ) → n ≤ 1 → outcome_number (outcome_by n) ≡ n
-number_outcome zero h = refl
-number_outcome (suc zero) h = refl
-number_outcome (suc (suc n)) h = absurd (omega arith)
 
 -- an element by its number
 nth_there : {X : Type 0} (xs : List X) (i : ℕ) → i < length xs → (x : X) × (slice_get xs i ≡ Some x)

@@ -1,16 +1,11 @@
 -- One write after another.
 use Rattle.std.proofs.Common.{◌≡◌, ℕ, ◌+◌, ◌*◌, ◌<◌, ◌≤◌, List, [], ◌∷◌, ◌++◌, length, take, drop, Some, sym, ap, ◌∙◌, add-zero, add_assoc, mul-le-mul_left, zero-add, arith}
-use borrow.Rule.Slice.PartMut.{put_mid}
 use Rattle.std.specs.List.{slice_get}
 use Rattle.std.proofs.lemmas.List.{take-append-drop, append_assoc, append-nil, length-append, drop-drop, take_at, drop_at, length-take-le, take_more}
 use Rattle.std.proofs.lemmas.Option.{get_or_from_slice_get}
 use Rattle.records.specs.Bytes.{overlay}
 use Rattle.records.specs.Shapes.{Shape, ShapeLaws, size_of, encoded, encoded_run}
 use Rattle.records.proofs.Passing.{length-encoded_run}
-
--- a write to a part of the page
-pub overlay_part : (page : List ℕ) (at k : ℕ) (part bs : List ℕ) → part ≡ bs → k ≡ length bs → put_mid at k page part ≡ overlay page at bs
-overlay_part page at k part bs p q = simp (p, q, drop-drop)
 
 pub overlay_none : (page : List ℕ) (at : ℕ) → overlay page at [] ≡ page
 overlay_none page at = rw (add-zero, take-append-drop)

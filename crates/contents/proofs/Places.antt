@@ -3,16 +3,11 @@ use Rattle.std.proofs.lemmas.Grind.{common_steps}
 use Rattle.std.proofs.Common.{◌≡◌, ℕ, ◌+◌, ◌-◌, ◌*◌, ◌<◌, ◌≤◌, List, length, drop, Some, None, Option, sym, ap, ◌∙◌, arith, length-drop, drop-drop, MatchOption}
 use Rattle.std.specs.List.{slice_get}
 use Rattle.records.specs.Shapes.{Shape, size_of, decoded, decoded_run}
-use Rattle.std.proofs.lemmas.Option.{slice_get_within}
 use Rattle.records.proofs.Passing.{nth_run}
 
 -- the k-th of the records has room
 pub room : (from size count k len : ℕ) → k < count → from + size * count ≤ len → from + size * k + size ≤ len
 room from size count k len h l = grind (arith, common_steps)
-
--- so has a record of a run that has room
-pub row_room : {R : Type 0} (shape : Shape R) (at : ℕ) (rs : List R) (k : ℕ) (r : R) (len : ℕ) → Some r ≡ slice_get rs k → at + size_of shape * length rs ≤ len → at + size_of shape * k + size_of shape ≤ len
-row_room shape at rs k r len e l = room at (size_of shape) (length rs) k len (slice_get_within rs k r (sym e)) l
 
 pub front_is : {R : Type 0} (shape : Shape R) (r : Option R) (bs : List ℕ) → MatchOption r (length bs < size_of shape) (λ x. (size_of shape ≤ length bs) × (x ≡ decoded shape bs)) → size_of shape ≤ length bs → r ≡ Some (decoded shape bs)
 front_is shape None bs h l = absurd (omega arith)

@@ -1,5 +1,5 @@
 -- A page's content, written and read back, and a page's bytes, read and written again.
-use Rattle.std.proofs.Common.{◌≡◌, ℕ, ◌+◌, ◌*◌, ◌≤◌, Bool, true, false, cond, ltb, List, [], ◌∷◌, ◌++◌, map, length, drop, Some, None, Ok, Option, sym, refl, ap, ◌∙◌, ap₂, arith, lit<}
+use Rattle.std.proofs.Common.{◌≡◌, ℕ, ◌+◌, ◌*◌, ◌≤◌, Bool, true, false, cond, ltb, List, [], ◌∷◌, ◌++◌, map, length, drop, Some, None, Ok, Option, sym, refl, ap, ◌∙◌, ap₂, arith}
 use Rattle.std.proofs.lemmas.List.{length-append, length-map, take-append-drop}
 use Rattle.std.proofs.lemmas.Bool.{lt-ltb, cond-true}
 use Rattle.amounts.specs.declared.cost.Cost as cost
@@ -14,8 +14,8 @@ use Rattle.std.specs.Result.{result_and}
 use Rattle.records.specs.Due.{due_record, due_run}
 use Rattle.records.specs.Layout.{header_shape, section_shape, estimate_shape, answer_shape, step_shape, end_shape}
 use Rattle.contents.proofs.Accepting.{section_bytes_all, estimate_bytes_all, answer_bytes_all}
-use Rattle.records.proofs.Coding.{bytes_append, bytes_drop}
-use Rattle.records.proofs.Passing.{both, due_stands, length-decoded_run, encoded_all, decoded-encoded, encoded-decoded, decoded_fits, due_written, length-encoded_run, encoded_run_all, run_stands}
+use Rattle.records.proofs.Coding.{bytes_drop}
+use Rattle.records.proofs.Passing.{both, due_stands, length-decoded_run, decoded-encoded, encoded-decoded, decoded_fits, due_written, length-encoded_run, run_stands}
 use Rattle.contents.specs.Checks.{header_of, section_bytes, estimate_bytes, answer_bytes, has_answer, step_bytes, step_count, limits_of, limits_for, due_end, due_answer, check_page}
 use Rattle.contents.specs.Content.{Meant, Content, section_from, pair_from, step_from, net_of, pairs_of, meant_by, content_of}
 use Rattle.contents.specs.Encoding.{section_record, estimate_record, step_record, answer_record, header_record, answer_encoded, encode, StepValid, MeantValid, AnswerValid, Valid, PageLaws}
@@ -57,19 +57,6 @@ module _ {C L S : Type 0} (c : cost.Ghosts C L S) where
       cond (has_answer rest) (Some (meant_by c sections a (decoded_run step_shape a.steps (step_bytes rest)))) None
 
   -- Bytes and their number -----------------------------------------------------------------------
-
-  answer_all : (o : Option (Meant L)) → Bytes (ends o)
-  answer_all None = (lit< tt, tt)
-  answer_all (Some m) =
-      bytes_append (encoded answer_shape (answer_record c m)) (steps_on m) (encoded_all answer_shape answer_laws (answer_record c m))
-      (bytes_append (encoded_run step_shape (map (step_record c) m.steps)) end (encoded_run_all step_shape step_laws (map (step_record c) m.steps)) (lit< tt, tt))
-
-  pub encode_all : (x : Content L S) → Bytes (encode c x)
-  encode_all x =
-      bytes_append (encoded header_shape (header_record c x.network)) (sections_on x) (encoded_all header_shape header_laws (header_record c x.network))
-      (bytes_append (encoded_run section_shape (map (section_record c) x.network.sections)) (estimates_on x) (encoded_run_all section_shape section_laws (map (section_record c) x.network.sections))
-      (bytes_append (encoded_run estimate_shape (map (estimate_record c) x.estimates)) (ends x.answer) (encoded_run_all estimate_shape estimate_laws (map (estimate_record c) x.estimates))
-      (answer_all x.answer)))
 
   pub answer_length : (m : Meant L) → length (answer_encoded c (Some m)) ≡ 20 + 13 * length m.steps
   answer_length m =

@@ -1,19 +1,12 @@
 -- An answer's steps, walked one at a time.
-use Rattle.std.proofs.lemmas.Grind.{common_steps}
-use Rattle.std.proofs.Common.{arith, ◌≡◌, ℕ, ◌+◌, ◌≤◌, Bool, true, false, ◌&&◌, eqb, List, length, drop, Some, Option}
+use Rattle.std.proofs.Common.{◌≡◌, ℕ, ◌+◌, ◌≤◌, Bool, true, false, ◌&&◌, eqb, List, length, drop, Some}
 use Rattle.std.specs.List.{slice_get}
 use Rattle.std.proofs.lemmas.List.{drop_all}
 use Rattle.amounts.specs.declared.cost.Cost as cost
 use Rattle.networks.specs.Nets.{Net}
-use Rattle.std.specs.Option.{option_map}
 use Rattle.networks.proofs.Numbers.{drop_nth}
 use Rattle.contents.specs.declared.answer.Step.{Step}
-use Rattle.contents.specs.declared.answer.Answer.{Answer}
-use Rattle.contents.specs.declared.answer.Outcome.{Outcome}
-use Rattle.contents.specs.declared.answer.Outcome.TheVariants.{Found}
-use Rattle.contents.specs.Content.{Meant, filed_by, steps_in}
-use Rattle.contents.proofs.Answers.{filed_some}
-use Rattle.contents.specs.Retracing.{same, step_right, walks, walked, retraced}
+use Rattle.contents.specs.Retracing.{same, step_right, walks}
 
 module _ {C L S : Type 0} (c : cost.Ghosts C L S) (net : Net S) (total : L) (steps : List (Step L)) (k : ℕ) (u : ℕ) (a : L) where
   abbrev left : Bool
@@ -30,14 +23,3 @@ module _ {C L S : Type 0} (c : cost.Ghosts C L S) (net : Net S) (total : L) (ste
 
   pub walk_all : length steps ≤ k → left ≡ (eqb u net.trap && same c a total)
   walk_all h = rw (drop_all k steps h)
-
--- an answer is retraced by its outcome
-module _ {C L S : Type 0} (c : cost.Ghosts C L S) (net : Net S) (o : Option (Meant L)) (f : Answer L ℕ) (told : Some f ≡ option_map filed_by o) where
-  retraced_by : (x : Outcome) → f.outcome ≡ x → walked c net x f.cost (steps_in o) ≡ retraced c net o
-  retraced_by x e =
-      let p = filed_some o f told in
-      let q = p.2 in
-      rw p.1 (grind (arith, common_steps))
-
-  pub retraced_found : f.outcome ≡ Found → walks c net net.launcher c.ops.zero f.cost (steps_in o) ≡ retraced c net o
-  retraced_found e = retraced_by Found e

@@ -6,10 +6,6 @@ use Rattle.std.proofs.lemmas.List.{length_push}
 use Rattle.std.proofs.lemmas.List.Elements.{All-from_recursion, recursion_from_All, All-append, All-drop}
 use Rattle.records.specs.Bytes.{number_at, bytes_of, fields_at, body_of, width_of, Fits, Bytes}
 
--- bytes one after another, and without their front
-pub bytes_append : (xs ys : List ℕ) → Bytes xs → Bytes ys → Bytes (xs ++ ys)
-bytes_append xs ys h k = recursion_from_All _ (xs ++ ys) (All-append (λ b. b < 256) xs ys (All-from_recursion _ xs h) (All-from_recursion _ ys k))
-
 pub bytes_drop : (n : ℕ) (bs : List ℕ) → Bytes bs → Bytes (drop n bs)
 bytes_drop n bs h = recursion_from_All _ (drop n bs) (All-drop (λ b. b < 256) n bs (All-from_recursion _ bs h))
 
@@ -17,10 +13,6 @@ bytes_drop n bs h = recursion_from_All _ (drop n bs) (All-drop (λ b. b < 256) n
 pub length-bytes : (w n : ℕ) → length (bytes_of w n) ≡ w
 length-bytes zero n = refl
 length-bytes (suc w) n = length_push (bytes_of w (n / 256)) (n % 256) ∙ omega (arith, length-bytes w (n / 256))
-
-pub bytes_all : (w n : ℕ) → Bytes (bytes_of w n)
-bytes_all zero n = tt
-bytes_all (suc w) n = bytes_append (bytes_of w (n / 256)) (n % 256 ∷ []) (bytes_all w (n / 256)) (omega arith, tt)
 
 -- the number of some bytes
 byte_below : (bs : List ℕ) (i : ℕ) → Bytes bs → get_or bs i 0 < 256
@@ -60,11 +52,6 @@ pub length-body : (ws vs : List ℕ) → length (body_of ws vs) ≡ width_of ws
 length-body [] vs = refl
 length-body (w ∷ ws) [] = simp (length-append, length-bytes, length-body ws [])
 length-body (w ∷ ws) (v ∷ vs) = simp (length-append, length-bytes, length-body ws vs)
-
-pub body_all : (ws vs : List ℕ) → Bytes (body_of ws vs)
-body_all [] vs = tt
-body_all (w ∷ ws) [] = bytes_append (bytes_of w 0) (body_of ws []) (bytes_all w 0) (body_all ws [])
-body_all (w ∷ ws) (v ∷ vs) = bytes_append (bytes_of w v) (body_of ws vs) (bytes_all w v) (body_all ws vs)
 
 -- the fields of some bytes
 pub length_fields : (ws bs : List ℕ) (i : ℕ) → length (fields_at ws bs i) ≡ length ws

@@ -10,7 +10,7 @@ use Rattle.records.specs.Bytes.{fields_at, body_of, width_of, Fits, Bytes}
 use Rattle.records.specs.Shapes.{Shape, ShapeLaws, size_of, encoded, decoded, decoded_run, encoded_run}
 use Rattle.std.specs.Result.{result_and}
 use Rattle.records.specs.Due.{due_record, due_run}
-use Rattle.records.proofs.Coding.{bytes_append, bytes_drop, length-body, body_all, length_fields, fields_fit, fields_body, body_fields}
+use Rattle.records.proofs.Coding.{bytes_drop, length-body, length_fields, fields_fit, fields_body, body_fields}
 
 -- what was passed on the way to an answer
 picks : {A : Type 0} (b : Bool) (f : Fault) (a : Result A Fault) (x : A) → cond b (Err f) a ≡ Ok x → (b ≡ false) × (a ≡ Ok x)
@@ -69,9 +69,6 @@ module _ {R : Type 0} (shape : Shape R) (laws : ShapeLaws shape) where
   pub length-encoded : (r : R) → length (encoded shape r) ≡ size_of shape
   length-encoded r = omega (arith, length-body shape.widths (shape.fields r))
 
-  pub encoded_all : (r : R) → Bytes (encoded shape r)
-  encoded_all r = (laws.byte, body_all shape.widths (shape.fields r))
-
   pub decoded-encoded : (r : R) (rest : List ℕ) → Fits shape.widths (shape.fields r) → decoded shape (encoded shape r ++ rest) ≡ r
   decoded-encoded r rest f = ap shape.of (fields_body shape.widths (shape.fields r) (shape.byte ∷ []) rest f) ∙ laws.of_fields r
 
@@ -97,10 +94,6 @@ module _ {R : Type 0} (shape : Shape R) (laws : ShapeLaws shape) where
   length-encoded_run (r ∷ rs) =
       length-append (encoded shape r) (encoded_run shape rs)
       ∙ omega (arith, length-encoded r, length-encoded_run rs, mul-suc (size_of shape) (length rs))
-
-  pub encoded_run_all : (rs : List R) → Bytes (encoded_run shape rs)
-  encoded_run_all [] = tt
-  encoded_run_all (r ∷ rs) = bytes_append (encoded shape r) (encoded_run shape rs) (encoded_all r) (encoded_run_all rs)
 
   pub run_decoded : (rs : List R) (rest : List ℕ) → AllByRecursion (λ r. Fits shape.widths (shape.fields r)) rs → decoded_run shape (length rs) (encoded_run shape rs ++ rest) ≡ rs
   run_decoded [] rest f = refl
