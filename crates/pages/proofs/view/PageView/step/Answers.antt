@@ -4,7 +4,7 @@ use Rattle.records.specs.Shapes.{decoded_run}
 use Rattle.contents.specs.Checks.{header_of, answer_bytes, step_bytes}
 use Rattle.contents.specs.Content.{step_in, step_from, net_of}
 use Rattle.contents.proofs.Accepting.{answer_place}
-use Rattle.contents.proofs.Answers.{record_in, steps_read, answer_told, answer_is, answer_some, answer_none}
+use Rattle.contents.proofs.Answers.{record_in, steps_read, answer_told, answer_is, answer_some}
 use Rattle.contents.proofs.Mapped.{mapped_some, mapped_none}
 use Rattle.pages.proofs.Views.{view_answered}
 use Rattle.pages.proofs.view.PageView.step.Goals as goal
