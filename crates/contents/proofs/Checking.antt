@@ -1,5 +1,5 @@
 -- The checks of a page, one after another.
-use Rattle.std.proofs.Common.{◌≡◌, ℕ, ◌*◌, true, List, length, drop, Ok, Err, Result, sym, ap, ◌∙◌}
+use Rattle.std.proofs.Common.{◌≡◌, ℕ, ◌*◌, true, List, length, drop, Ok, Result, sym, ap, ◌∙◌}
 use Rattle.faults.specs.declared.Fault.{Fault}
 use Rattle.records.specs.declared.limits.Limits.{Limits}
 use Rattle.records.specs.declared.kinds.AnswerRecord.{AnswerRecord}
@@ -18,9 +18,6 @@ due_is shape limits len bs r e = sym (due_stands shape limits len bs r (sym e)).
 module _ (limits : Limits) (len : ℕ) (rest : List ℕ) (a : AnswerRecord) (there : has_answer rest ≡ true) (due : Ok a ≡ due_record answer_shape limits len rest) where
   answer_at : due_answer limits len rest ≡ result_and (due_run step_shape limits len a.steps (step_bytes rest)) (due_end limits len (drop (13 * a.steps) (step_bytes rest)))
   answer_at = rw (there, ← due, ← due_is answer_shape limits len rest a due)
-
-  pub answer_stops : (f : Fault) (steps : List ℕ) → steps ≡ step_bytes rest → Err f ≡ due_run step_shape limits len a.steps steps → Err f ≡ due_answer limits len rest
-  answer_stops f steps s e = rw (answer_at, ← s, ← e)
 
   pub answer_ends : (steps left : List ℕ) → steps ≡ step_bytes rest → Ok tt ≡ due_run step_shape limits len a.steps steps → left ≡ drop (13 * a.steps) steps → due_end limits len left ≡ due_answer limits len rest
   answer_ends steps left s e l = rw (l, s, answer_at, ← s, ← e)

@@ -1,14 +1,11 @@
 -- One write after another.
-use Rattle.std.proofs.Common.{◌≡◌, ℕ, ◌+◌, ◌*◌, ◌<◌, ◌≤◌, List, [], ◌∷◌, ◌++◌, length, take, drop, Some, sym, ap, ◌∙◌, add-zero, add_assoc, mul-le-mul_left, zero-add, arith}
+use Rattle.std.proofs.Common.{◌≡◌, ℕ, ◌+◌, ◌*◌, ◌<◌, ◌≤◌, List, [], ◌∷◌, ◌++◌, length, take, drop, Some, sym, ap, ◌∙◌, add_assoc, mul-le-mul_left, zero-add, arith}
 use Rattle.std.specs.List.{slice_get}
-use Rattle.std.proofs.lemmas.List.{take-append-drop, append_assoc, append-nil, length-append, drop-drop, take_at, drop_at, length-take-le, take_more}
+use Rattle.std.proofs.lemmas.List.{append_assoc, append-nil, length-append, drop-drop, take_at, drop_at, length-take-le, take_more}
 use Rattle.std.proofs.lemmas.Option.{get_or_from_slice_get}
 use Rattle.records.specs.Bytes.{overlay}
 use Rattle.records.specs.Shapes.{Shape, ShapeLaws, size_of, encoded, encoded_run}
 use Rattle.records.proofs.Passing.{length-encoded_run}
-
-pub overlay_none : (page : List ℕ) (at : ℕ) → overlay page at [] ≡ page
-overlay_none page at = rw (add-zero, take-append-drop)
 
 pub overlay_front : (page bs : List ℕ) → overlay page 0 bs ≡ bs ++ drop (length bs) page
 overlay_front page bs = rw zero-add

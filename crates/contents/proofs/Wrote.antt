@@ -15,7 +15,7 @@ use Rattle.records.specs.Due.{page_fault}
 use Rattle.faults.specs.declared.Refusal.TheVariants.{EstimateCount, PageTooShort}
 use Rattle.contents.specs.Writing.{answer_size, needed, answer_fault, write_fault, write_of}
 use Rattle.records.specs.Laws.{section_laws, estimate_laws}
-use Rattle.contents.proofs.Overlays.{overlay_none, overlay_more, overlay_front, overlay_five}
+use Rattle.contents.proofs.Overlays.{overlay_more, overlay_front, overlay_five}
 use Rattle.contents.proofs.Returning.{written_reads, answer_length, encode_length}
 
 module _ {C L S : Type 0} (c : cost.Ghosts C L S) where
@@ -24,10 +24,6 @@ module _ {C L S : Type 0} (c : cost.Ghosts C L S) where
   pub answer_size_lem : (o : Option (Meant L)) → length (answer_encoded c o) ≡ answer_size o
   answer_size_lem None = refl
   answer_size_lem (Some m) = answer_length c m
-
-  -- no answer writes nothing
-  pub none_put : (page : List ℕ) (at : ℕ) (o : Option (Meant L)) → o ≡ None → page ≡ overlay page at (answer_encoded c o)
-  none_put page at o e = rw e (sym (overlay_none page at))
 
   -- an answer's record, and its steps after it
   pub some_put : (page : List ℕ) (at : ℕ) (o : Option (Meant L)) (m : Meant L) {one two : List ℕ} (next : ℕ) → o ≡ Some m

@@ -1,5 +1,5 @@
 -- A run of records, one at a time from its front.
-use Rattle.std.proofs.Common.{◌≡◌, ℕ, suc, ◌+◌, ◌-◌, ◌<◌, ◌≤◌, List, drop, Ok, Err, Result, arith}
+use Rattle.std.proofs.Common.{◌≡◌, ℕ, suc, ◌+◌, ◌-◌, ◌<◌, List, drop, Ok, Result, arith}
 use Rattle.std.specs.Result.{result_and}
 use Rattle.faults.specs.declared.Fault.{Fault}
 use Rattle.records.specs.declared.limits.Limits.{Limits}
@@ -22,9 +22,3 @@ module _ {R : Type 0} (shape : Shape R) (limits : Limits) (len : ℕ) (n i : ℕ
       → due_run shape limits' len' (n - (i + 1)) bs' ≡ left
   run_more r h e limits' len' bs' p q t =
       rw (p, q, t, run_at h, ← e)
-
-  pub run_stops : (f : Fault) → i < n → Err f ≡ due_record shape limits len bs → Err f ≡ left
-  run_stops f h e = rw (run_at h, ← e)
-
-  pub run_all : n ≤ i → Ok tt ≡ left
-  run_all h = let e : n - i ≡ 0 = omega arith in rw e

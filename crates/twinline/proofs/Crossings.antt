@@ -1,10 +1,8 @@
 -- Which sections of a twin line go across at a station.
 use denote.Enum.Bare.{sameb}
-use Rattle.std.proofs.Common.{◌≡◌, ℕ, ◌+◌, ◌-◌, ◌*◌, ◌/◌, ◌%◌, ◌<◌, ◌≤◌, Bool, true, false, cond, Some, None, Option, sym, ap, ◌∙◌, div-add-mod', arith}
-use native.Mathlib.Nat.{div-eq_of_eq-mul_left, mul-mod_left}
-use Rattle.std.proofs.lemmas.Bool.{eq-eqb, ne_eqb, eqb-true, eqb-false}
-use Rattle.std.proofs.lemmas.Nat.{le-div}
-use Rattle.std.proofs.lemmas.Option.{none-some, same_Some}
+use Rattle.std.proofs.Common.{◌≡◌, ℕ, ◌+◌, ◌-◌, ◌*◌, ◌/◌, ◌%◌, ◌<◌, ◌≤◌, Bool, cond, None, Option, sym, ap, ◌∙◌, arith}
+use native.Mathlib.Nat.{mul-mod_left}
+use Rattle.std.proofs.lemmas.Option.{none-some}
 use Rattle.std.proofs.lemmas.Bool.Decides.{nat_tests}
 use Rattle.faults.specs.declared.Side.{Side}
 use Rattle.faults.specs.contracts.Side.{the_type}
@@ -24,41 +22,6 @@ module _ (t : Line) (r : LineRange t) (place : ℕ) where
     here = λ m e. absurd (none-some m e);
     alone = λ m lo hi at' way. absurd (h (ap (λ p. p % t.spacing) (sym at') ∙ mul-mod_left ((m - 2 * along t) / 2) t.spacing));
   }
-
-  -- elsewhere it is numbered by the quotient
-  module _ (h : place % t.spacing ≡ 0) (l : place < t.count) where
-    abbrev k : ℕ
-    k = t.spacing
-
-    abbrev q : ℕ
-    q = place / t.spacing
-
-    back : q * k ≡ place
-    back = omega (arith, div-add-mod' place k)
-
-    few : q ≤ along t / k
-    few = le-div q (along t) k (omega arith) (omega (arith, back))
-
-    quotient : (m : ℕ) → cross_place t m ≡ place → q ≡ (m - 2 * along t) / 2
-    quotient m e = let pos : 0 < k = omega arith in div-eq_of_eq-mul_left {n = k} {m = place} {k = (m - 2 * along t) / 2} pos (sym e)
-
-    pub cross_at_down : Crossing t place true (Some (2 * along t + 2 * q))
-    cross_at_down = record {
-      here = λ m e.
-          let x : m ≡ 2 * along t + 2 * q = sym (same_Some _ _ e) in
-          let j : (m - 2 * along t) / 2 ≡ q = omega arith in
-          (omega arith, omega (arith, few), ap (λ n. n * k) j ∙ back, eq-eqb _ _ (omega arith));
-      alone = λ m lo hi at' way. ap Some (omega (arith, quotient m at', eqb-true _ _ way));
-    }
-
-    pub cross_at_up : Crossing t place false (Some (2 * along t + 2 * q + 1))
-    cross_at_up = record {
-      here = λ m e.
-          let x : m ≡ 2 * along t + 2 * q + 1 = sym (same_Some _ _ e) in
-          let j : (m - 2 * along t) / 2 ≡ q = omega arith in
-          (omega arith, omega (arith, few), ap (λ n. n * k) j ∙ back, ne_eqb _ _ (λ z. omega arith));
-      alone = λ m lo hi at' way. ap Some (omega (arith, quotient m at', eqb-false _ _ way));
-    }
 
 -- what crosses at a place has its ends at the two stations there
 module _ (t : Line) (r : LineRange t) where
@@ -91,13 +54,3 @@ module _ (t : Line) (r : LineRange t) where
       here = λ m e. let h = x.here m e in let f = to_across m h.0 in (h.0, h.1, grind (arith, nat_tests));
       alone = λ m lo hi v. let p = on_line m hi in let f = to_across m lo in x.alone m lo hi (grind (arith, nat_tests)) (grind (arith, nat_tests));
     }
-
-  pub across_none : (side : Side) (station : ℕ) → 2 * t.count ≤ station → Only (end_of t side) station (2 * along t) (section_count t) None
-  across_none Forward station l = record {
-    here = λ m e. absurd (none-some m e);
-    alone = λ m lo hi v. let p = on_line m hi in let f = from_across m lo in absurd (grind (arith, nat_tests));
-  }
-  across_none Backward station l = record {
-    here = λ m e. absurd (none-some m e);
-    alone = λ m lo hi v. let p = on_line m hi in let f = to_across m lo in absurd (grind (arith, nat_tests));
-  }
