@@ -5,10 +5,11 @@ ghost use Rattle.amounts.specs.Forms.{SectionLaws, LabelLaws, KindLaws, TotalsOn
 ghost use Rattle.amounts.specs.declared.cost.SectionForm.{SectionForm};
 ghost use Rattle.amounts.specs.declared.cost.LabelForm.{LabelForm};
 
-// Kept: two structs, since a generic one would say by its parameters what the two names say.
+// Kept: two structs; one over the types of its fields would be one type of two numbers to a clause, and a label's form
+// could stand where a section's is meant.
 
 /// A section's amount as it stands on a page.
-#[derive(Clone, Copy, Debug, Default, PartialEq, Eq)]
+#[derive(Clone, Copy, Debug, PartialEq, Eq)]
 pub struct SectionForm {
     pub moves: u16,
     pub samples: u32,

@@ -9,9 +9,6 @@ pub const EXACT: u64 = 1 << 60;
 /// Samples in a label's form stand below this.
 pub const SAMPLES: u64 = 1 << 44;
 
-/// Moves in a label's form stand below this.
-pub const MOVES: u64 = 1 << 32;
-
 /// Whether two sizes total at most the limit.
 pub fn fit(a: u64, b: u64) -> bool
     ensures { result ≡ fits a b }
@@ -26,7 +23,8 @@ pub fn in_field(a: i64, limit: u64) -> Option<u64>
     u64::try_from(a).ok().filter(|n| *n < limit)
 }
 
-// Kept: these two, since the same operators written in place get no proof where a label has two parts.
+// Kept: two functions, which differ in their operator; written in place, the operators got no proof in a label of two
+// parts.
 
 /// The sum of two numbers within the limit.
 pub(crate) fn exact_sum(a: i64, b: i64) -> i64

@@ -2,7 +2,7 @@
 ghost use Rattle.std.specs.Prelude.{◌≡◌, IfOk};
 ghost use Rattle.amounts.specs.Sampling.{length_fits, rate_fits, samples_of, Covers};
 
-use faults::{Fault, out_of_range};
+use faults::{Fault, in_range};
 
 /// The longest section, in millimetres.
 pub const LONGEST: u64 = 8_000_000;
@@ -26,11 +26,7 @@ pub fn samples_of(length: u64, rate: u64) -> Result<u32, Fault>
     ensures exact { result ≡ samples_of length rate }
     ensures covers { IfOk result (Covers length rate) }
 {
-    if !length_fits(length) {
-        return Err(out_of_range(0));
-    }
-    if !rate_fits(rate) {
-        return Err(out_of_range(1));
-    }
-    Ok(((length * rate + 999) / 1000) as u32)
+    in_range(0, length_fits(length))?;
+    in_range(1, rate_fits(rate))?;
+    Ok((length * rate).div_ceil(1000) as u32)
 }

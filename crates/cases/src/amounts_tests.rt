@@ -103,6 +103,7 @@ fn parts(fault: Fault) -> (u8, usize, Layer) {
 fn faults_of_the_network_layer(rt: HostRuntime) {
     let network = Layer::Network;
     assert_eq!(rt; parts(out_of_range(0)), (12, 0, network));
+    assert_eq!(rt; parts(out_of_range(1)), (12, 1, network));
     assert_eq!(rt; parts(out_of_range(5)), (12, 5, network));
     assert_eq!(rt;
         parts(network.fault(Refusal::ShutInFull { kept: 64 })),
@@ -111,5 +112,9 @@ fn faults_of_the_network_layer(rt: HostRuntime) {
     assert_eq!(rt;
         parts(network.fault(Refusal::NoSuchSection { number: 8 })),
         (14, 8, network)
+    );
+    assert_eq!(rt;
+        parts(network.fault(Refusal::NoSuchSection { number: 158 })),
+        (14, 158, network)
     );
 }

@@ -108,6 +108,7 @@ fn shut_sections(rt: HostRuntime) -> Result<(), Fail> {
     assert_eq!(rt; net.shut::<Samples>(8), Err(no_such_section(8)));
     assert_eq!(rt; net.shut::<Samples>(4), Ok(()));
     assert_eq!(rt; net.shut::<Samples>(4), Ok(()));
+    assert_eq!(rt; net.kept(), [4].as_slice());
     assert_eq!(rt; open::<Samples, ShutIn<TwinLine>>(&net, 4), None);
     assert_eq!(rt;
         open::<Samples, ShutIn<TwinLine>>(&net, 5),

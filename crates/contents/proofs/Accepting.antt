@@ -1,17 +1,18 @@
 -- What an accepted page holds, whatever the kind it was read for.
-use Rattle.std.proofs.Common.{◌≡◌, ℕ, suc, ◌+◌, ◌*◌, ◌^◌, ◌<◌, ◌≤◌, true, false, cond, ◌&&◌, eqb, ltb, leb, List, [], ◌∷◌, length, get_or, drop, is_ok, Some, None, Ok, Err, Option, Result, sym, refl, ap, ◌∙◌, arith, length-drop, drop-drop}
+use Rattle.std.proofs.lemmas.Grind.{common_steps}
+use Rattle.std.proofs.Common.{◌≡◌, ℕ, suc, ◌+◌, ◌*◌, ◌^◌, ◌<◌, ◌≤◌, true, false, cond, ◌&&◌, eqb, ltb, leb, List, [], ◌∷◌, map, length, get_or, drop, is_ok, Some, None, Ok, Err, Option, Result, sym, refl, ap, ◌∙◌, arith, length-drop, drop-drop}
 use Rattle.std.specs.List.{AllByRecursion}
 use Rattle.std.specs.Option.{unwrap_or}
-use Rattle.std.proofs.ByRecursion.{All-drop, All-map, All-weaker}
 use Rattle.std.proofs.lemmas.List.{length-map}
 use Rattle.std.proofs.lemmas.Bool.{and_parts, eqb-true, ltb-true, leb-true, lt-ltb}
 use Rattle.faults.specs.declared.Fault.{Fault}
 use Rattle.records.specs.Bytes.{Bytes}
-use Rattle.records.specs.Shapes.{decoded, decoded_run}
+use Rattle.records.specs.Shapes.{Shape, decoded, decoded_run}
 use Rattle.std.specs.Result.{result_and}
 use Rattle.records.specs.Due.{due_record, due_run}
 use Rattle.records.specs.Layout.{header_shape, section_shape, estimate_shape, answer_shape, step_shape}
-use Rattle.records.proofs.Passing.{Stands, due_stands, RunStands, run_stands, run_fits, length-decoded_run}
+use Rattle.records.proofs.Coding.{bytes_drop}
+use Rattle.records.proofs.Passing.{both, Stands, due_stands, RunStands, run_stands, run_fits, length-decoded_run}
 use Rattle.amounts.specs.Forms.{SectionRange, LabelLaws, OnPage, label_form}
 use Rattle.amounts.specs.declared.cost.Cost as cost
 use Rattle.amounts.specs.declared.cost.SectionForm.{SectionForm}
@@ -39,22 +40,20 @@ pub test_from_each : (bs : List ℕ) → ((i : ℕ) → get_or bs i 0 < 256) →
 test_from_each [] h = refl
 test_from_each (b ∷ bs) h = ap (λ t. t && all_bytes bs) (lt-ltb b 256 (h 0)) ∙ test_from_each bs (λ i. h (suc i))
 
-pub bytes_drop : (n : ℕ) (bs : List ℕ) → Bytes bs → Bytes (drop n bs)
-bytes_drop n bs h = All-drop (λ b. b < 256) n bs h
+pub section_bytes_all : (bs : List ℕ) → Bytes bs → Bytes (section_bytes bs)
+section_bytes_all bs all = bytes_drop 10 bs all
+
+pub estimate_bytes_all : (bs : List ℕ) → Bytes bs → Bytes (estimate_bytes bs)
+estimate_bytes_all bs all = bytes_drop (12 * (header_of bs).sections) (section_bytes bs) (section_bytes_all bs all)
+
+pub answer_bytes_all : (bs : List ℕ) → Bytes bs → Bytes (answer_bytes bs)
+answer_bytes_all bs all = bytes_drop (21 * (header_of bs).stations) (estimate_bytes bs) (estimate_bytes_all bs all)
 
 -- Answers --------------------------------------------------------------------------------------
 
 pub ok_is : {A : Type 0} (r : Result A Fault) → is_ok r ≡ true → (a : A) × (r ≡ Ok a)
 ok_is (Ok a) e = (a, refl)
 ok_is (Err f) e = cc
-
-pub then_first : {A B : Type 0} (r : Result A Fault) (s : Result B Fault) → is_ok (result_and r s) ≡ true → is_ok r ≡ true
-then_first (Ok a) s e = refl
-then_first (Err f) s e = cc
-
-pub then_second : {A B : Type 0} (r : Result A Fault) (s : Result B Fault) → is_ok (result_and r s) ≡ true → is_ok s ≡ true
-then_second (Ok a) s e = e
-then_second (Err f) s e = cc
 
 -- The parts of an accepted page ----------------------------------------------------------------
 
@@ -73,18 +72,16 @@ accepted kind bs all ok =
     let sections = due_run section_shape limits len h.sections (section_bytes bs) in
     let estimates = due_run estimate_shape limits len h.stations (estimate_bytes bs) in
     let answer = due_answer limits len (answer_bytes bs) in
-    let ok₁ = then_second first (result_and sections (result_and estimates answer)) ok in
-    let ok₂ = then_second sections (result_and estimates answer) ok₁ in
-    let p = ok_is first (then_first first (result_and sections (result_and estimates answer)) ok) in
-    let q = ok_is sections (then_first sections (result_and estimates answer) ok₁) in
-    let r = ok_is estimates (then_first estimates answer ok₂) in
+    let whole = ok_is (check_page kind bs) ok in
+    let p = both first (result_and sections (result_and estimates answer)) whole.0 whole.1 in
+    let q = both sections (result_and estimates answer) whole.0 p.2 in
+    let r = both estimates answer whole.0 q.2 in
     let stands = due_stands header_shape (limits_for kind) len bs p.0 p.1 in
-    let all₁ = bytes_drop 10 bs all in
     record {
       header = record { fits = stands.fits; kinded = stands.kinded; is = refl; good = stands.good };
-      sections = run_stands section_shape section_laws limits len h.sections (section_bytes bs) all₁ q.1;
-      estimates = run_stands estimate_shape estimate_laws limits len h.stations (estimate_bytes bs) (bytes_drop (12 * h.sections) (section_bytes bs) all₁) r.1;
-      answer = then_second estimates answer ok₂;
+      sections = run_stands section_shape section_laws limits len h.sections (section_bytes bs) (section_bytes_all bs all) q.1;
+      estimates = run_stands estimate_shape estimate_laws limits len h.stations (estimate_bytes bs) (estimate_bytes_all bs all) r.1;
+      answer = ap is_ok r.2;
     }
 
 -- what the answer of the checks tells, with a header or without
@@ -101,7 +98,7 @@ pub kind_is : (kind : ℕ) (bs : List ℕ) → check_page kind bs ≡ Ok tt → 
 kind_is kind bs e =
     let h = header_of bs in
     let first = due_record header_shape (limits_for kind) (length bs) bs in
-    let p = ok_is first (then_first first _ (ap is_ok e)) in
+    let p = both first _ tt e in
     let stands = due_stands header_shape (limits_for kind) (length bs) bs p.0 p.1 in
     eqb-true h.kind kind (and_parts (eqb h.kind kind) _ stands.good).0
 
@@ -114,10 +111,8 @@ module _ (kind : ℕ) (bs : List ℕ) (a : Accepted kind bs) where
   estimates_there = omega (arith, a.header.fits, a.sections.fits, a.estimates.fits, length-drop 10 bs, length-drop (12 * (header_of bs).sections) (section_bytes bs))
 
 -- where an answer stands, by its offset
-pub answer_place : (bs : List ℕ) → drop (10 + 12 * (header_of bs).sections + 21 * (header_of bs).stations) bs ≡ answer_bytes bs
-answer_place bs =
-    let n = (header_of bs).sections in
-    sym (ap (drop (21 * (header_of bs).stations)) (drop-drop (12 * n) 10 bs) ∙ drop-drop (21 * (header_of bs).stations) (10 + 12 * n) bs)
+pub answer_place : (bs rest : List ℕ) (at : ℕ) → rest ≡ drop at bs → at ≡ 10 + 12 * (header_of bs).sections + 21 * (header_of bs).stations → rest ≡ answer_bytes bs
+answer_place bs rest at e p = rw (e, p) (simp drop-drop)
 
 -- an answer that is there is all there, with its steps
 pub record Answered (limits : Limits) (rest : List ℕ) : Type 0 where
@@ -129,9 +124,9 @@ answered limits len rest all there ok =
     let first = due_record answer_shape limits len rest in
     let steps = due_run step_shape limits len (step_count rest) (step_bytes rest) in
     let ends = due_end limits len (drop (13 * step_count rest) (step_bytes rest)) in
-    let ok₁ : is_ok (result_and first (result_and steps ends)) ≡ true = ap (λ b. is_ok (cond b (result_and first (result_and steps ends)) (due_end limits len rest))) (sym there) ∙ ok in
-    let p = ok_is first (then_first first (result_and steps ends) ok₁) in
-    let q = ok_is steps (then_first steps ends (then_second first (result_and steps ends) ok₁)) in
+    let whole = ok_is (result_and first (result_and steps ends)) (ap (λ b. is_ok (cond b (result_and first (result_and steps ends)) (due_end limits len rest))) (sym there) ∙ ok) in
+    let p = both first (result_and steps ends) whole.0 whole.1 in
+    let q = both steps ends whole.0 p.2 in
     let stands = due_stands answer_shape limits len rest p.0 p.1 in
     record {
       answer = record { fits = stands.fits; kinded = stands.kinded; is = refl; good = stands.good };
@@ -140,12 +135,10 @@ answered limits len rest all there ok =
 
 -- the answer's record, or that there is none
 pub answer_there : (bs rest : List ℕ) (r : Option AnswerRecord) → rest ≡ answer_bytes bs → has_answer rest ≡ true → r ≡ Some (decoded answer_shape rest) → r ≡ cond (has_answer (answer_bytes bs)) (Some (decoded answer_shape (answer_bytes bs))) None
-answer_there bs rest r e h i =
-    i ∙ ap (λ b. cond b (Some (decoded answer_shape rest)) None) (sym h) ∙ ap (λ l. cond (has_answer l) (Some (decoded answer_shape l)) None) e
+answer_there bs rest r e h i = grind (arith, common_steps)
 
 pub answer_absent : (bs rest : List ℕ) → rest ≡ answer_bytes bs → has_answer rest ≡ false → None ≡ cond (has_answer (answer_bytes bs)) (Some (decoded answer_shape (answer_bytes bs))) None
-answer_absent bs rest e h =
-    ap (λ b. cond b (Some (decoded answer_shape rest)) None) (sym h) ∙ ap (λ l. cond (has_answer l) (Some (decoded answer_shape l)) None) e
+answer_absent bs rest e h = grind (arith, common_steps)
 
 -- no byte is no answer
 pub empty_none : (rest : List ℕ) → length rest < 1 → has_answer rest ≡ false
@@ -154,21 +147,23 @@ empty_none (b ∷ rest) h = absurd (omega arith)
 
 -- The meanings are in range ----------------------------------------------------------------------
 
--- of each element, both facts
-pub both_of : {X : Type 0} (P Q : X → Type 0) (xs : List X) → AllByRecursion P xs → AllByRecursion Q xs → AllByRecursion (λ x. P x × Q x) xs
-both_of P Q [] p q = tt
-both_of P Q (x ∷ xs) p q = ((p.0, q.0), both_of P Q xs p.1 q.1)
+-- of each element of a run, that it is good and fits gives what it means
+pub each_meant : {R M : Type 0} (shape : Shape R) (limits : Limits) (from : R → M) (V : M → Type 0) (rs : List R)
+    → ((r : R) → shape.good limits r ≡ true → Fits shape.widths (shape.fields r) → V (from r))
+    → AllByRecursion (λ r. shape.good limits r ≡ true) rs → AllByRecursion (λ r. Fits shape.widths (shape.fields r)) rs → AllByRecursion V (map from rs)
+each_meant shape limits from V [] turns good fit = tt
+each_meant shape limits from V (r ∷ rs) turns good fit = (turns r good.0 fit.0, each_meant shape limits from V rs turns good.1 fit.1)
 
 module _ {C L S : Type 0} (c : cost.Ghosts C L S) (kind : ℕ) (bs : List ℕ) (all : Bytes bs) (a : Accepted kind bs) where
-  section_range : (kept : (f : SectionForm) → SectionRange f → SectionRange (c.parts (c.made f))) (limits : Limits) (r : SectionRecord) → (section_shape.good limits r ≡ true) × Fits section_shape.widths (section_shape.fields r) → SectionInRange c.parts limits.stations (section_from c r)
-  section_range kept limits r h =
-      let p = and_parts (leb r.state 1) _ h.0 in
+  section_range : (kept : (f : SectionForm) → SectionRange f → SectionRange (c.parts (c.made f))) (limits : Limits) (r : SectionRecord) → section_shape.good limits r ≡ true → Fits section_shape.widths (section_shape.fields r) → SectionInRange c.parts limits.stations (section_from c r)
+  section_range kept limits r good fit =
+      let p = and_parts (leb r.state 1) _ good in
       let q = and_parts (ltb r.from limits.stations) _ p.1 in
       let t = and_parts (ltb r.to limits.stations) _ q.1 in
       record {
         from = ltb-true r.from limits.stations q.0;
         to = ltb-true r.to limits.stations t.0;
-        amount = kept r.amount (record { moves = h.1.1.1.1.0; samples = h.1.1.1.1.1.0 });
+        amount = kept r.amount (record { moves = fit.1.1.1.0; samples = fit.1.1.1.1.0 });
       }
 
   pub net_range : ((f : SectionForm) → SectionRange f → SectionRange (c.parts (c.made f))) → InRange c.parts (net_of c bs)
@@ -181,15 +176,14 @@ module _ {C L S : Type 0} (c : cost.Ghosts C L S) (kind : ℕ) (bs : List ℕ) (
       let s = and_parts (leb h.sections 16384) _ r.1 in
       let t = and_parts (ltb h.launcher h.stations) _ s.1 in
       let run = decoded_run section_shape h.sections (section_bytes bs) in
-      let fit = run_fits section_shape section_laws h.sections (section_bytes bs) (bytes_drop 10 bs all) in
-      let each = both_of (λ x. section_shape.good limits x ≡ true) (λ x. Fits section_shape.widths (section_shape.fields x)) run a.sections.good fit in
+      let fit = run_fits section_shape section_laws h.sections (section_bytes bs) (section_bytes_all bs all) in
       record {
         some = leb-true 1 h.stations q.0;
         few = leb-true h.stations 4096 r.0;
         launcher = ltb-true h.launcher h.stations t.0;
         trap = ltb-true h.trap h.stations t.1;
         short = omega (arith, leb-true h.sections 16384 s.0, length-map run (section_from c), length-decoded_run section_shape h.sections (section_bytes bs));
-        each = All-map (SectionInRange c.parts h.stations) (section_from c) run (All-weaker _ _ (section_range kept limits) run each);
+        each = each_meant section_shape limits (section_from c) (SectionInRange c.parts h.stations) run (section_range kept limits) a.sections.good fit;
       }
 
   module _ (laws : LabelLaws c.ops c.shown c.told) where
@@ -200,16 +194,15 @@ module _ {C L S : Type 0} (c : cost.Ghosts C L S) (kind : ℕ) (bs : List ℕ) (
     label_range : (k : ℕ) (f : LabelForm) → label_fits k f ≡ true → f.moves < 2 ^ 32 → OnPage c.shown (label_from c f)
     label_range k f e h = label_told (c.told f) f refl h (ltb-true f.samples (2 ^ 44) (and_parts (moves_fit k f.moves) (ltb f.samples (2 ^ 44)) e).1)
 
-    pair_range : (limits : Limits) (r : EstimateRecord) → (estimate_shape.good limits r ≡ true) × Fits estimate_shape.widths (estimate_shape.fields r) → PairInRange c.shown (pair_from c r)
-    pair_range limits r h =
-        let p = and_parts (label_fits limits.kind r.forward) (label_fits limits.kind r.backward) h.0 in
-        record { forward = label_range limits.kind _ p.0 h.1.0; backward = label_range limits.kind _ p.1 h.1.1.1.0 }
+    pair_range : (limits : Limits) (r : EstimateRecord) → estimate_shape.good limits r ≡ true → Fits estimate_shape.widths (estimate_shape.fields r) → PairInRange c.shown (pair_from c r)
+    pair_range limits r good fit =
+        let p = and_parts (label_fits limits.kind r.forward) (label_fits limits.kind r.backward) good in
+        record { forward = label_range limits.kind _ p.0 fit.0; backward = label_range limits.kind _ p.1 fit.1.1.0 }
 
     pub pairs_range : GivenInRange c.shown (pairs_of c bs)
     pairs_range =
         let h = header_of bs in
         let limits = limits_of kind h in
         let run = decoded_run estimate_shape h.stations (estimate_bytes bs) in
-        let fit = run_fits estimate_shape estimate_laws h.stations (estimate_bytes bs) (bytes_drop (12 * h.sections) (section_bytes bs) (bytes_drop 10 bs all)) in
-        let each = both_of (λ x. estimate_shape.good limits x ≡ true) (λ x. Fits estimate_shape.widths (estimate_shape.fields x)) run a.estimates.good fit in
-        All-map (PairInRange c.shown) (pair_from c) run (All-weaker _ _ (pair_range limits) run each)
+        let fit = run_fits estimate_shape estimate_laws h.stations (estimate_bytes bs) (estimate_bytes_all bs all) in
+        each_meant estimate_shape limits (pair_from c) (PairInRange c.shown) run (pair_range limits) a.estimates.good fit

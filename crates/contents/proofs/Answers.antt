@@ -1,7 +1,8 @@
 -- The answer that an accepted page tells.
-use Rattle.std.proofs.Common.{◌≡◌, ℕ, ◌+◌, ◌*◌, Bool, true, false, cond, List, length, drop, Some, None, Option, sym, refl, ap, ◌∙◌, drop-drop}
+use Rattle.std.proofs.Common.{◌≡◌, ℕ, ◌+◌, ◌*◌, Bool, true, false, cond, List, length, drop, Some, None, Option, sym, refl, drop-drop}
 use Rattle.std.specs.List.{slice_get}
 use Rattle.std.proofs.lemmas.List.{length-map}
+use Rattle.std.proofs.lemmas.Option.{cond_some}
 use Rattle.amounts.specs.declared.cost.Cost as cost
 use Rattle.std.specs.Option.{option_map}
 use Rattle.records.specs.declared.kinds.AnswerRecord.{AnswerRecord}
@@ -12,11 +13,7 @@ use Rattle.records.proofs.Passing.{length-decoded_run}
 use Rattle.contents.specs.declared.answer.Answer.{Answer}
 use Rattle.contents.specs.Checks.{header_of, answer_bytes, has_answer, step_bytes}
 use Rattle.contents.proofs.Accepting.{answer_place}
-use Rattle.contents.specs.Content.{Meant, filed_by, meant_by, step_from, net_of, answer_of}
-
-some_told : {X : Type 0} (b : Bool) (x a : X) → Some a ≡ cond b (Some x) None → (b ≡ true) × (a ≡ x)
-some_told true x a e = (refl, cc)
-some_told false x a e = cc
+use Rattle.contents.specs.Content.{Meant, filed_by, meant_by, net_of, answer_of}
 
 none_told : {X : Type 0} (b : Bool) (x : X) → None ≡ cond b (Some x) None → b ≡ false
 none_told true x e = cc
@@ -27,16 +24,14 @@ abbrev pub record_in : List ℕ → Option AnswerRecord
 record_in bs = cond (has_answer (answer_bytes bs)) (Some (decoded answer_shape (answer_bytes bs))) None
 
 pub answer_told : (bs : List ℕ) (a : AnswerRecord) → Some a ≡ record_in bs → has_answer (answer_bytes bs) ≡ true
-answer_told bs a e = (some_told (has_answer (answer_bytes bs)) (decoded answer_shape (answer_bytes bs)) a e).0
+answer_told bs a e = (cond_some (has_answer (answer_bytes bs)) (decoded answer_shape (answer_bytes bs)) a (sym e)).0
 
 pub answer_is : (bs : List ℕ) (a : AnswerRecord) → Some a ≡ record_in bs → a ≡ decoded answer_shape (answer_bytes bs)
-answer_is bs a e = (some_told (has_answer (answer_bytes bs)) (decoded answer_shape (answer_bytes bs)) a e).1
+answer_is bs a e = sym (cond_some (has_answer (answer_bytes bs)) (decoded answer_shape (answer_bytes bs)) a (sym e)).1
 
 -- the steps' records, by their offset
 pub steps_read : (bs : List ℕ) (at n count k : ℕ) (r : Option StepRecord) → r ≡ slice_get (decoded_run step_shape n (drop (at + 20) bs)) k → at ≡ 10 + 12 * (header_of bs).sections + 21 * (header_of bs).stations → n ≡ count → r ≡ slice_get (decoded_run step_shape count (step_bytes (answer_bytes bs))) k
-steps_read bs at n count k r e p q =
-    e ∙ ap (λ m. slice_get (decoded_run step_shape m (drop (at + 20) bs)) k) q
-    ∙ ap (λ l. slice_get (decoded_run step_shape count l) k) (sym (drop-drop 20 at bs) ∙ ap (drop 20) (ap (λ m. drop m bs) p ∙ answer_place bs))
+steps_read bs at n count k r e p q = rw (e, q, ← answer_place bs (drop at bs) at refl p) (simp drop-drop)
 
 module _ {C L S : Type 0} (c : cost.Ghosts C L S) (bs : List ℕ) where
   -- what an answer's record and its steps mean
@@ -44,17 +39,13 @@ module _ {C L S : Type 0} (c : cost.Ghosts C L S) (bs : List ℕ) where
   meaning a = meant_by c (net_of c bs).sections a (decoded_run step_shape a.steps (step_bytes (answer_bytes bs)))
 
   pub answer_some : (a : AnswerRecord) → Some a ≡ record_in bs → Some (meaning a) ≡ answer_of c bs
-  answer_some a e =
-      ap (λ x. Some (meaning x)) (answer_is bs a e) ∙ sym (ap (λ b. cond b (Some (meaning (decoded answer_shape (answer_bytes bs)))) None) (answer_told bs a e))
+  answer_some a e = rw (answer_told bs a e, answer_is bs a e)
 
   pub answer_none : None ≡ record_in bs → None ≡ answer_of c bs
-  answer_none e =
-      sym (ap (λ b. cond b (Some (meaning (decoded answer_shape (answer_bytes bs)))) None) (none_told (has_answer (answer_bytes bs)) (decoded answer_shape (answer_bytes bs)) e))
+  answer_none e = rw (none_told (has_answer (answer_bytes bs)) (decoded answer_shape (answer_bytes bs)) e)
 
   pub meaning_steps : (a : AnswerRecord) → length (meaning a).steps ≡ a.steps
-  meaning_steps a =
-      let run = decoded_run step_shape a.steps (step_bytes (answer_bytes bs)) in
-      length-map run (step_from c (net_of c bs).sections) ∙ length-decoded_run step_shape a.steps (step_bytes (answer_bytes bs))
+  meaning_steps a = simp (length-map, length-decoded_run)
 
 -- the answer behind what a view tells of it
 pub filed_some : {L : Type 0} (o : Option (Meant L)) (f : Answer L ℕ) → Some f ≡ option_map filed_by o → (m : Meant L) × (o ≡ Some m) × (f ≡ filed_by m)

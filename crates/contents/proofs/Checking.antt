@@ -1,45 +1,26 @@
 -- The checks of a page, one after another.
-use Rattle.std.proofs.Common.{◌≡◌, ℕ, ◌-◌, ◌*◌, Bool, true, false, cond, eqb, ltb, List, [], ◌∷◌, length, get_or, drop, Ok, Err, Result, sym, ap, ◌∙◌}
+use Rattle.std.proofs.Common.{◌≡◌, ℕ, ◌*◌, true, List, length, drop, Ok, Result, sym, ap, ◌∙◌}
 use Rattle.faults.specs.declared.Fault.{Fault}
-use Rattle.faults.specs.declared.Refusal.TheVariants.{PageEnds, UnexpectedKind, FieldOutOfRange}
 use Rattle.records.specs.declared.limits.Limits.{Limits}
 use Rattle.records.specs.declared.kinds.AnswerRecord.{AnswerRecord}
 use Rattle.records.specs.declared.kinds.HeaderRecord.{HeaderRecord}
-use Rattle.records.specs.Shapes.{Shape, size_of, decoded}
+use Rattle.records.specs.Shapes.{Shape, decoded}
 use Rattle.std.specs.Result.{result_and}
-use Rattle.records.specs.Due.{page_fault, due_record, due_run}
+use Rattle.records.specs.Due.{due_record, due_run}
 use Rattle.records.specs.Layout.{header_shape, section_shape, estimate_shape, answer_shape, step_shape}
-use Rattle.contents.specs.Checks.{header_of, section_bytes, has_answer, step_bytes, step_count, limits_of, limits_for, due_end, due_answer, check_page}
+use Rattle.records.proofs.Passing.{due_stands}
+use Rattle.contents.specs.Checks.{header_of, section_bytes, has_answer, step_bytes, limits_of, limits_for, due_end, due_answer, check_page}
 
--- the one way through the tests of a record
-passed : {R : Type 0} (kind short good : Bool) (x r : R) (f g h : Fault) → cond kind (cond short (Err f) (cond good (Ok x) (Err g))) (Err h) ≡ Ok r → x ≡ r
-passed true true good x r f g h e = cc
-passed true false true x r f g h e = cc
-passed true false false x r f g h e = cc
-passed false short good x r f g h e = cc
-
+-- a record that passed is the one that stands there
 pub due_is : {R : Type 0} (shape : Shape R) (limits : Limits) (len : ℕ) (bs : List ℕ) (r : R) → Ok r ≡ due_record shape limits len bs → decoded shape bs ≡ r
-due_is shape limits len [] r e = cc
-due_is shape limits len (b ∷ bs) r e =
-    let rest = b ∷ bs in
-    let at = len - length rest in
-    passed (eqb (get_or rest 0 0) shape.byte) (ltb (length rest) (size_of shape)) (shape.good limits (decoded shape rest)) (decoded shape rest) r (page_fault (PageEnds len)) (page_fault (FieldOutOfRange at)) (page_fault (UnexpectedKind at)) (sym e)
+due_is shape limits len bs r e = sym (due_stands shape limits len bs r (sym e)).is
 
 module _ (limits : Limits) (len : ℕ) (rest : List ℕ) (a : AnswerRecord) (there : has_answer rest ≡ true) (due : Ok a ≡ due_record answer_shape limits len rest) where
   answer_at : due_answer limits len rest ≡ result_and (due_run step_shape limits len a.steps (step_bytes rest)) (due_end limits len (drop (13 * a.steps) (step_bytes rest)))
-  answer_at =
-      let same = due_is answer_shape limits len rest a due in
-      ap (λ b. cond b (result_and (due_record answer_shape limits len rest) (result_and (due_run step_shape limits len (step_count rest) (step_bytes rest)) (due_end limits len (drop (13 * step_count rest) (step_bytes rest))))) (due_end limits len rest)) there
-      ∙ ap (λ d. result_and d (result_and (due_run step_shape limits len (step_count rest) (step_bytes rest)) (due_end limits len (drop (13 * step_count rest) (step_bytes rest))))) (sym due)
-      ∙ ap (λ x. result_and (due_run step_shape limits len x.steps (step_bytes rest)) (due_end limits len (drop (13 * x.steps) (step_bytes rest)))) same
-
-  pub answer_stops : (f : Fault) (steps : List ℕ) → steps ≡ step_bytes rest → Err f ≡ due_run step_shape limits len a.steps steps → Err f ≡ due_answer limits len rest
-  answer_stops f steps s e = sym (answer_at ∙ ap (λ d. result_and d (due_end limits len (drop (13 * a.steps) (step_bytes rest)))) (sym (e ∙ ap (due_run step_shape limits len a.steps) s)))
+  answer_at = rw (there, ← due, ← due_is answer_shape limits len rest a due)
 
   pub answer_ends : (steps left : List ℕ) → steps ≡ step_bytes rest → Ok tt ≡ due_run step_shape limits len a.steps steps → left ≡ drop (13 * a.steps) steps → due_end limits len left ≡ due_answer limits len rest
-  answer_ends steps left s e l =
-      ap (due_end limits len) (l ∙ ap (drop (13 * a.steps)) s)
-      ∙ sym (answer_at ∙ ap (λ d. result_and d (due_end limits len (drop (13 * a.steps) (step_bytes rest)))) (sym (e ∙ ap (due_run step_shape limits len a.steps) s)))
+  answer_ends steps left s e l = rw (l, s, answer_at, ← s, ← e)
 
 -- a page by its header
 module _ (kind : ℕ) (bs : List ℕ) (h : HeaderRecord) (due : Ok h ≡ due_record header_shape (limits_for kind) (length bs) bs) where
@@ -60,12 +41,6 @@ module _ (kind : ℕ) (bs : List ℕ) (h : HeaderRecord) (due : Ok h ≡ due_rec
   -- all of it passed but the answer
   pub page_answer : (sections estimates left : List ℕ) → sections ≡ section_bytes bs → Ok tt ≡ due_run section_shape (limits_of kind h) (length bs) h.sections sections → estimates ≡ drop (12 * h.sections) sections → Ok tt ≡ due_run estimate_shape (limits_of kind h) (length bs) h.stations estimates → left ≡ drop (21 * h.stations) estimates → due_answer (limits_of kind h) (length bs) left ≡ check_page kind bs
   page_answer sections estimates left s p e q l =
-      let limits = limits_of kind h in
-      let len = length bs in
-      let estimates' = drop (12 * h.sections) (section_bytes bs) in
-      let es : estimates ≡ estimates' = e ∙ ap (drop (12 * h.sections)) s in
-      let answer = due_answer limits len (drop (21 * h.stations) estimates') in
-      ap (due_answer limits len) (l ∙ ap (drop (21 * h.stations)) es)
-      ∙ ap (λ d. result_and d answer) (q ∙ ap (due_run estimate_shape limits len h.stations) es)
-      ∙ ap (λ d. result_and d (result_and (due_run estimate_shape limits len h.stations estimates') answer)) (p ∙ ap (due_run section_shape limits len h.sections) s)
-      ∙ sym page_at
+      let p' = rw s at p in
+      let q' = rw (e, s) at q in
+      rw (l, e, s, page_at, ← p', ← q')

@@ -1,18 +1,18 @@
 -- The records of a page, to what they mean and back.
-use Rattle.std.proofs.Common.{◌≡◌, ℕ, zero, suc, ◌*◌, ◌^◌, ◌<◌, ◌≤◌, Bool, true, false, cond, ◌&&◌, ◌||◌, eqb, ltb, leb, List, [], ◌∷◌, ◌++◌, map, length, drop, Some, None, Ok, Option, sym, refl, ap, ◌∙◌, ap₂, arith, lit≤}
+use Rattle.std.proofs.lemmas.Grind.{common_steps}
+use Rattle.std.proofs.Common.{⊎_elim, ◌≡◌, ℕ, zero, suc, ◌*◌, ◌^◌, ◌<◌, ◌≤◌, Bool, true, false, cond, ◌&&◌, ◌||◌, eqb, ltb, leb, List, [], ◌∷◌, ◌++◌, map, length, drop, Some, None, Ok, Option, sym, refl, ap, ◌∙◌, ap₂, arith, lit≤}
+use Rattle.std.proofs.lemmas.Option.{slice_get_cases, slice_get_within}
 use Rattle.std.specs.List.{AllByRecursion, slice_get}
 use Rattle.std.specs.Option.{is_some, unwrap_or}
 use Rattle.std.proofs.lemmas.List.{length-map, drop_at, take-append-drop, nil_from_length}
-use Rattle.std.proofs.ByRecursion.{All-weaker, All-map}
 use Rattle.std.proofs.lemmas.Bool.{and_parts, and_from, eq-eqb, eqb-true, lt-ltb, ltb-true, le-leb, leb-true}
 use Rattle.amounts.specs.declared.cost.Cost as cost
 use Rattle.amounts.specs.declared.cost.LabelForm.{LabelForm}
 use Rattle.amounts.specs.declared.cost.SectionForm.{SectionForm}
-use Rattle.amounts.specs.Forms.{section_form, label_form, same_form, moves_fit, OnPage, LabelRange}
+use Rattle.amounts.specs.Forms.{label_form, moves_fit, OnPage, LabelRange}
 use Rattle.networks.specs.declared.section.Section.{Section}
 use Rattle.networks.specs.Nets.{Net, InRange, SectionInRange}
 use Rattle.networks.specs.Given.{PairInRange}
-use Rattle.networks.proofs.Numbers.{below_nth}
 use Rattle.records.specs.declared.limits.Limits.{Limits}
 use Rattle.records.specs.declared.kinds.HeaderRecord.{HeaderRecord}
 use Rattle.records.specs.declared.kinds.SectionRecord.{SectionRecord}
@@ -24,6 +24,7 @@ use Rattle.records.specs.Shapes.{Shape, ShapeLaws, size_of, decoded_run, encoded
 use Rattle.records.specs.Due.{due_run}
 use Rattle.records.specs.Values.{label_fits}
 use Rattle.records.specs.Layout.{header_shape, section_shape, estimate_shape, answer_shape, step_shape}
+use Rattle.contents.proofs.Accepting.{each_meant}
 use Rattle.records.proofs.Passing.{RunStands, length-encoded_run, run_decoded, run_written, run_fits}
 use Rattle.contents.specs.declared.answer.Outcome.{Outcome}
 use Rattle.contents.specs.declared.answer.Outcome.TheVariants.{Found, NoRoute}
@@ -49,10 +50,12 @@ module _ {R M : Type 0} {shape : Shape R} {limits : Limits} {to : M → R} {from
   GoodAll rs = AllByRecursion (λ r. shape.good limits r ≡ true) rs
 
   all_fit : (ms : List M) → AllByRecursion V ms → FitsAll (map to ms)
-  all_fit ms v = All-map (λ r. Fits shape.widths (shape.fields r)) to ms (All-weaker V (λ m. Fits shape.widths (shape.fields (to m))) turns.fits ms v)
+  all_fit [] v = tt
+  all_fit (m ∷ ms) v = (turns.fits m v.0, all_fit ms v.1)
 
   all_good : (ms : List M) → AllByRecursion V ms → GoodAll (map to ms)
-  all_good ms v = All-map (λ r. shape.good limits r ≡ true) to ms (All-weaker V (λ m. shape.good limits (to m) ≡ true) turns.good ms v)
+  all_good [] v = tt
+  all_good (m ∷ ms) v = (turns.good m v.0, all_good ms v.1)
 
   all_there : (ms : List M) → AllByRecursion V ms → map from (map to ms) ≡ ms
   all_there [] v = refl
@@ -62,20 +65,12 @@ module _ {R M : Type 0} {shape : Shape R} {limits : Limits} {to : M → R} {from
   all_back [] f g = refl
   all_back (r ∷ rs) f g = ap₂ (λ y ys. y ∷ ys) (turns.back r f.0 g.0) (all_back rs f.1 g.1)
 
-  all_valid : (rs : List R) → FitsAll rs → GoodAll rs → AllByRecursion V (map from rs)
-  all_valid [] f g = tt
-  all_valid (r ∷ rs) f g = (turns.valid r f.0 g.0, all_valid rs f.1 g.1)
-
   -- a run that is written passes, is read, and is passed over
   pub run_passes : (len n : ℕ) (ms : List M) (rest : List ℕ) → length ms ≡ n → AllByRecursion V ms → due_run shape limits len n (encoded_run shape (map to ms) ++ rest) ≡ Ok tt
-  run_passes len n ms rest e v =
-      ap (λ k. due_run shape limits len k (encoded_run shape (map to ms) ++ rest)) (sym (length-map ms to ∙ e))
-      ∙ run_written shape laws limits len (map to ms) rest (all_fit ms v) (all_good ms v)
+  run_passes len n ms rest e v = rw (← (length-map ms to ∙ e)) (run_written shape laws limits len (map to ms) rest (all_fit ms v) (all_good ms v))
 
   pub run_reads : (n : ℕ) (ms : List M) (rest : List ℕ) → length ms ≡ n → AllByRecursion V ms → map from (decoded_run shape n (encoded_run shape (map to ms) ++ rest)) ≡ ms
-  run_reads n ms rest e v =
-      ap (λ k. map from (decoded_run shape k (encoded_run shape (map to ms) ++ rest))) (sym (length-map ms to ∙ e))
-      ∙ ap (map from) (run_decoded shape laws (map to ms) rest (all_fit ms v)) ∙ all_there ms v
+  run_reads n ms rest e v = rw (← (length-map ms to ∙ e), run_decoded shape laws (map to ms) rest (all_fit ms v)) (all_there ms v)
 
   pub run_after : (n : ℕ) (ms : List M) (rest : List ℕ) → length ms ≡ n → drop (size_of shape * n) (encoded_run shape (map to ms) ++ rest) ≡ rest
   run_after n ms rest e = drop_at (encoded_run shape (map to ms)) rest (size_of shape * n) (length-encoded_run shape laws (map to ms) ∙ ap (λ k. size_of shape * k) (length-map ms to ∙ e))
@@ -83,7 +78,7 @@ module _ {R M : Type 0} {shape : Shape R} {limits : Limits} {to : M → R} {from
   -- a run that passed is valid, and is written as it stood
   module _ (n : ℕ) (bs : List ℕ) (all : Bytes bs) (stands : RunStands shape limits n bs) where
     pub run_valid : AllByRecursion V (map from (decoded_run shape n bs))
-    run_valid = all_valid (decoded_run shape n bs) (run_fits shape laws n bs all) stands.good
+    run_valid = each_meant shape limits from V (decoded_run shape n bs) (λ r g f. turns.valid r f g) stands.good (run_fits shape laws n bs all)
 
     pub run_back : encoded_run shape (map to (map from (decoded_run shape n bs))) ++ drop (size_of shape * n) bs ≡ bs
     run_back =
@@ -104,24 +99,13 @@ number_flag zero h = refl
 number_flag (suc zero) h = refl
 number_flag (suc (suc n)) h = absurd (omega arith)
 
-pub outcome_number_lem : (o : Outcome) → outcome_by (outcome_number o) ≡ o
-outcome_number_lem Found = refl
-outcome_number_lem NoRoute = refl
-
 outcome_small : (o : Outcome) → outcome_number o ≤ 1
 outcome_small Found = lit≤ tt
 outcome_small NoRoute = lit≤ tt
 
-pub number_outcome : (n : ℕ) → n ≤ 1 → outcome_number (outcome_by n) ≡ n
-number_outcome zero h = refl
-number_outcome (suc zero) h = refl
-number_outcome (suc (suc n)) h = absurd (omega arith)
-
 -- an element by its number
 nth_there : {X : Type 0} (xs : List X) (i : ℕ) → i < length xs → (x : X) × (slice_get xs i ≡ Some x)
-nth_there [] i h = absurd (omega arith)
-nth_there (y ∷ ys) zero h = (y, refl)
-nth_there (y ∷ ys) (suc i) h = nth_there ys i (omega arith)
+nth_there xs i h = ⊎_elim (λ p. (p.0, p.2)) (λ p. absurd (omega arith)) (slice_get_cases xs i).1
 
 module _ {C L S : Type 0} (c : cost.Ghosts C L S) (laws : PageLaws c) where
   -- Amounts ------------------------------------------------------------------------------------
@@ -166,23 +150,13 @@ module _ {C L S : Type 0} (c : cost.Ghosts C L S) (laws : PageLaws c) where
 
   -- the form of a section's amount
   moves_fit_lem : (s : S) → moves_fit c.KIND (c.parts s).moves ≡ true
-  moves_fit_lem s =
-      let f : SectionForm = c.parts s in
-      sym (laws.kinds.sections f) ∙ ap (λ a. same_form (c.parts a) f) (laws.sections.whole s)
-      ∙ ap₂ (λ x y. x && y) (eq-eqb f.moves f.moves refl) (eq-eqb f.samples f.samples refl)
+  moves_fit_lem s = grind (arith, common_steps)
 
   form_made : (f : SectionForm) → moves_fit c.KIND f.moves ≡ true → c.parts (c.made f) ≡ f
-  form_made f g =
-      let made : SectionForm = c.parts (c.made f) in
-      let p = and_parts (eqb made.moves f.moves) (eqb made.samples f.samples) (laws.kinds.sections f ∙ g) in
-      ap₂ section_form (eqb-true made.moves f.moves p.0) (eqb-true made.samples f.samples p.1)
+  form_made f g = grind (arith, common_steps)
 
   section_good : (h : HeaderRecord) (r : SectionRecord) → section_shape.good (limits_of c.KIND h) r ≡ true → (r.state ≤ 1) × (r.from < h.stations) × (r.to < h.stations) × (moves_fit c.KIND r.amount.moves ≡ true)
-  section_good h r g =
-      let p = and_parts (leb r.state 1) _ g in
-      let q = and_parts (ltb r.from h.stations) _ p.1 in
-      let t = and_parts (ltb r.to h.stations) _ q.1 in
-      (leb-true _ _ p.0, ltb-true _ _ q.0, ltb-true _ _ t.0, t.1)
+  section_good h r g = grind (arith, common_steps)
 
   pub section_turns : (h : HeaderRecord) → h.stations ≤ 4096 → Turns section_shape (limits_of c.KIND h) (section_record c) (section_from c) (SectionInRange c.parts h.stations)
   section_turns h few =
@@ -230,8 +204,8 @@ module _ {C L S : Type 0} (c : cost.Ghosts C L S) (laws : PageLaws c) where
       record {
         fits = λ s v.
             let a = label_written s.so_far v.cost in
-            (omega (arith, below_nth sections s.section v.section (sym v.there)), (a.moves, (a.samples, tt)));
-        good = λ s v. and_from _ _ (lt-ltb _ _ (omega (arith, below_nth sections s.section v.section (sym v.there)))) (label_written s.so_far v.cost).good;
+            (omega (arith, slice_get_within sections s.section v.section v.there), (a.moves, (a.samples, tt)));
+        good = λ s v. and_from _ _ (lt-ltb _ _ (omega (arith, slice_get_within sections s.section v.section v.there))) (label_written s.so_far v.cost).good;
         there = λ s v.
             let t = v.there in
             let p : from_of (slice_get sections s.section) ≡ s.from = ap from_of t ∙ sym v.from in
@@ -262,13 +236,7 @@ module _ {C L S : Type 0} (c : cost.Ghosts C L S) (laws : PageLaws c) where
 
   pub header_read : (h : HeaderRecord) → header_shape.good (limits_for c.KIND) h ≡ true
       → (h.kind ≡ c.KIND) × (1 ≤ h.stations) × (h.stations ≤ 4096) × (h.sections ≤ 16384) × (h.launcher < h.stations) × (h.trap < h.stations)
-  header_read h g =
-      let p = and_parts (eqb h.kind c.KIND) _ g in
-      let q = and_parts (leb 1 h.stations) _ p.1 in
-      let r = and_parts (leb h.stations 4096) _ q.1 in
-      let s = and_parts (leb h.sections 16384) _ r.1 in
-      let t = and_parts (ltb h.launcher h.stations) _ s.1 in
-      (eqb-true _ _ p.0, leb-true _ _ q.0, leb-true _ _ r.0, leb-true _ _ s.0, ltb-true _ _ t.0, ltb-true _ _ t.1)
+  header_read h g = grind (arith, common_steps)
 
   -- Answers ------------------------------------------------------------------------------------
 
@@ -299,9 +267,7 @@ module _ {C L S : Type 0} (c : cost.Ghosts C L S) (laws : PageLaws c) where
       rw (le-leb _ _ (outcome_small m.outcome), (label_written m.cost v.cost).good, le-leb _ _ v.few, lt-ltb _ _ v.taken) (nothing_good m.outcome m.cost m.steps v.nothing)
 
   pub answer_there : (net : Net S) (m : Meant L) (steps : List StepRecord) → MeantValid c net m → map (step_from c net.sections) steps ≡ m.steps → meant_by c net.sections (answer_record c m) steps ≡ m
-  answer_there net m steps v e =
-      ap₂ (λ o a. record { run = m.run; outcome = o; cost = a; taken = m.taken; steps = map (step_from c net.sections) steps }) (outcome_number_lem m.outcome) (label_written m.cost v.cost).read
-      ∙ ap (λ ss. record { run = m.run; outcome = m.outcome; cost = m.cost; taken = m.taken; steps = ss }) e
+  answer_there net m steps v e = grind (arith, common_steps)
 
   -- an answer as it is read
   module _ (h : HeaderRecord) (a : AnswerRecord) (fits : Fits answer_shape.widths (answer_shape.fields a)) (good : answer_shape.good (limits_of c.KIND h) a ≡ true) where
@@ -318,10 +284,7 @@ module _ {C L S : Type 0} (c : cost.Ghosts C L S) (laws : PageLaws c) where
 
     module _ (steps : List StepRecord) (count : length steps ≡ a.steps) where
       pub answer_back : (sections : List (Section S)) → answer_record c (meant_by c sections a steps) ≡ a
-      answer_back sections =
-          let r = answer_read in
-          ap₂ (λ o f. record { run = a.run; outcome = o; cost = f; steps = length (map (step_from c sections) steps); taken = a.taken }) (number_outcome a.outcome r.0) r.1.form
-          ∙ ap (λ n. record { run = a.run; outcome = a.outcome; cost = a.cost; steps = n; taken = a.taken }) (length-map steps (step_from c sections) ∙ count)
+      answer_back sections = grind (arith, common_steps)
 
       pub answer_valid : (net : Net S) → net.stations ≡ h.stations → AllByRecursion (StepValid c net.sections) (map (step_from c net.sections) steps) → MeantValid c net (meant_by c net.sections a steps)
       answer_valid net e each =

@@ -1,11 +1,13 @@
 -- An answer without a fault is one that a page can hold.
-use Rattle.std.proofs.Common.{◌≡◌, ℕ, ◌+◌, ◌*◌, ◌^◌, ◌<◌, ◌≤◌, Bool, true, false, cond, not, ◌&&◌, eqb, ltb, leb, List, [], ◌∷◌, length, is_some, Some, None, Option, sym, refl, ap, ◌∙◌, ap₂, arith}
+use Rattle.std.proofs.lemmas.Grind.{common_steps}
+use Rattle.std.proofs.Common.{◌≡◌, ℕ, ◌+◌, ◌*◌, ◌<◌, ◌≤◌, Bool, true, false, cond, not, ◌&&◌, eqb, List, [], ◌∷◌, length, get_or, is_some, Some, None, Option, sym, refl, ap, ◌∙◌, ap₂, arith}
 use Rattle.std.specs.List.{AllByRecursion, slice_get, position, position_from}
+use Rattle.std.proofs.lemmas.Option.{slice_get_within}
 use Rattle.std.specs.Option.{option_map}
 use Rattle.std.proofs.lemmas.Iterator.Adapters.{position_from-zero}
-use Rattle.std.proofs.ByRecursion.{All-weaker}
+use Rattle.std.proofs.lemmas.List.Elements.{All-from_recursion, recursion_from_All}
 use Rattle.std.proofs.lemmas.List.{nil_from_length}
-use Rattle.std.proofs.lemmas.Bool.{false≢true, and_parts, eqb-true, ltb-true, leb-true}
+use Rattle.std.proofs.lemmas.Bool.{and_parts, eqb-true}
 use Rattle.faults.specs.declared.Fault.{Fault}
 use Rattle.faults.specs.declared.Refusal.TheVariants.{FieldOutOfRange}
 use Rattle.amounts.specs.declared.cost.Cost as cost
@@ -13,7 +15,6 @@ use Rattle.amounts.specs.declared.cost.LabelForm.{LabelForm}
 use Rattle.amounts.specs.Forms.{label_form, OnPage}
 use Rattle.networks.specs.declared.section.Section.{Section}
 use Rattle.networks.specs.Nets.{Net, InRange}
-use Rattle.networks.proofs.Numbers.{below_nth}
 use Rattle.records.specs.Due.{page_fault}
 use Rattle.contents.specs.declared.answer.Outcome.{Outcome}
 use Rattle.contents.specs.declared.answer.Outcome.TheVariants.{Found, NoRoute}
@@ -77,11 +78,7 @@ module _ {C L S : Type 0} (c : cost.Ghosts C L S) (net : Net S) where
       (step_valid s p.0, steps_valid (at + 13) ss p.1)
 
   meant_parts : (m : Meant L) → meant_good c net m ≡ true → OnPage c.shown m.cost × (length m.steps ≤ 4095) × (m.taken < net.stations) × (nothing_at c m.outcome m.cost (length m.steps) ≡ true)
-  meant_parts m e =
-      let p = and_parts (is_some (c.shown m.cost)) _ e in
-      let q = and_parts (leb (length m.steps) 4095) _ p.1 in
-      let t = and_parts (ltb m.taken net.stations) _ q.1 in
-      (on_page m.cost p.0, leb-true _ _ q.0, ltb-true _ _ t.0, t.1)
+  meant_parts m e = grind (arith, common_steps)
 
   module _ (laws : PageLaws c) where
     nothing_valid : (o : Outcome) (a : L) (ss : List (Step L)) → OnPage c.shown a → nothing_at c o a (length ss) ≡ true → NothingAt c o a ss
@@ -114,11 +111,12 @@ module _ {C L S : Type 0} (c : cost.Ghosts C L S) (net : Net S) where
   short at None range e = (tt, omega arith)
   short at (Some m) range e =
       let p = none_left (meant_good c net m) (steps_fault c net (at + 20) m.steps) _ e in
-      let q = meant_parts m p.0 in (
+      let q = meant_parts m p.0 in
+      let valid = All-from_recursion (StepValid c net.sections) m.steps (steps_valid (at + 20) m.steps p.1) in (
         (
           omega (arith, range.few),
           omega arith,
-          All-weaker (StepValid c net.sections) (λ s. s.section < 2 ^ 16) (λ s t. omega (arith, range.short, below_nth net.sections s.section t.section (sym t.there))) m.steps (steps_valid (at + 20) m.steps p.1),
+          recursion_from_All _ m.steps (λ k d l. let t = valid k d l in omega (arith, range.short, slice_get_within net.sections (get_or m.steps k d).section t.section t.there)),
         ),
         omega arith,
       )

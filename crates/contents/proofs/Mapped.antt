@@ -1,6 +1,6 @@
 -- Lists of records seen through what they tell.
-use Rattle.std.proofs.Common.{◌≡◌, ℕ, zero, suc, eqb, List, [], ◌∷◌, map, Some, None, sym, refl, ap, ◌∙◌, subst}
-use Rattle.std.specs.List.{AllByRecursion, slice_get}
+use Rattle.std.proofs.Common.{◌≡◌, ℕ, eqb, List, map, Some, None, sym, refl, ap, ◌∙◌}
+use Rattle.std.specs.List.{slice_get}
 use Rattle.std.proofs.lemmas.Option.{slice_get-map}
 use Rattle.faults.specs.declared.Side.{Side}
 use Rattle.faults.specs.declared.Side.TheVariants.{Forward, Backward}
@@ -16,12 +16,6 @@ mapped_some f xs i x e = ap (option_map f) e ∙ sym (slice_get-map f xs i)
 
 pub mapped_none : {X Y : Type 0} (f : X → Y) (xs : List X) (i : ℕ) → None ≡ slice_get xs i → None ≡ slice_get (map f xs) i
 mapped_none f xs i e = ap (option_map f) e ∙ sym (slice_get-map f xs i)
-
--- what holds of each element
-pub all_nth : {X : Type 0} (P : X → Type 0) (xs : List X) (i : ℕ) (x : X) → Some x ≡ slice_get xs i → AllByRecursion P xs → P x
-all_nth P [] i x e a = cc
-all_nth P (y ∷ ys) zero x e a = let same : y ≡ x = cc in subst P same a.0
-all_nth P (y ∷ ys) (suc i) x e a = all_nth P ys i x e a.1
 
 pub same_start : {C L S : Type 0} (c : cost.Ghosts C L S) (side : Side) (station : ℕ) (r : SectionRecord) → starts side station (section_from c r) ≡ eqb (start_of side r) station
 same_start c Forward station r = refl

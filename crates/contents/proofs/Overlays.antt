@@ -1,19 +1,11 @@
 -- One write after another.
-use Rattle.std.proofs.Common.{◌≡◌, ℕ, ◌+◌, ◌*◌, ◌<◌, ◌≤◌, List, [], ◌∷◌, ◌++◌, length, get_or, take, drop, Some, sym, ap, ◌∙◌, add-zero, add_assoc, mul-le-mul_left, zero-add, arith}
-use borrow.Rule.Slice.PartMut.{put_mid}
+use Rattle.std.proofs.Common.{◌≡◌, ℕ, ◌+◌, ◌*◌, ◌<◌, ◌≤◌, List, [], ◌∷◌, ◌++◌, length, take, drop, Some, sym, ap, ◌∙◌, add_assoc, mul-le-mul_left, zero-add, arith}
 use Rattle.std.specs.List.{slice_get}
-use Rattle.std.proofs.lemmas.List.{take-append-drop, append_assoc, append-nil, length-append, drop-drop, take_at, drop_at, length-take-le, take_more}
-use Rattle.std.proofs.lemmas.Option.{slice_get-get_or}
+use Rattle.std.proofs.lemmas.List.{append_assoc, append-nil, length-append, drop-drop, take_at, drop_at, length-take-le, take_more}
+use Rattle.std.proofs.lemmas.Option.{get_or_from_slice_get}
 use Rattle.records.specs.Bytes.{overlay}
 use Rattle.records.specs.Shapes.{Shape, ShapeLaws, size_of, encoded, encoded_run}
 use Rattle.records.proofs.Passing.{length-encoded_run}
-
--- a write to a part of the page
-pub overlay_part : (page : List ℕ) (at k : ℕ) (part bs : List ℕ) → part ≡ bs → k ≡ length bs → put_mid at k page part ≡ overlay page at bs
-overlay_part page at k part bs p q = simp (p, q, drop-drop)
-
-pub overlay_none : (page : List ℕ) (at : ℕ) → overlay page at [] ≡ page
-overlay_none page at = rw (add-zero, take-append-drop)
 
 pub overlay_front : (page bs : List ℕ) → overlay page 0 bs ≡ bs ++ drop (length bs) page
 overlay_front page bs = rw zero-add
@@ -49,15 +41,12 @@ overlay_five page h s e a z {one} {two} {three} {four} {five} n₁ n₂ n₃ n�
 
 -- one element more
 pub take_nth : {X : Type 0} (xs : List X) (i : ℕ) (x : X) → i < length xs → Some x ≡ slice_get xs i → take (i + 1) xs ≡ take i xs ++ (x ∷ [])
-take_nth xs i x h e =
-    let g = slice_get-get_or xs i x h in
-    let same : get_or xs i x ≡ x = cc in
-    take_more xs i x h ∙ ap (λ y. take i xs ++ (y ∷ [])) same
+take_nth xs i x h e = take_more xs i x h ∙ ap (λ y. take i xs ++ (y ∷ [])) (get_or_from_slice_get xs i x x (sym e))
 
 module _ {R : Type 0} (shape : Shape R) (laws : ShapeLaws shape) where
   run_push : (rs : List R) (r : R) → encoded_run shape (rs ++ (r ∷ [])) ≡ encoded_run shape rs ++ encoded shape r
   run_push [] r = append-nil (encoded shape r)
-  run_push (q ∷ rs) r = ap (λ l. encoded shape q ++ l) (run_push rs r) ∙ sym (append_assoc (encoded shape q) (encoded_run shape rs) (encoded shape r))
+  run_push (q ∷ rs) r = rw (run_push rs r, append_assoc)
 
   -- one record more
   pub run_step : (page : List ℕ) (at i : ℕ) (rs : List R) (r : R) (held : List ℕ) (place : ℕ)
@@ -70,6 +59,4 @@ module _ {R : Type 0} (shape : Shape R) (laws : ShapeLaws shape) where
       let m : length front ≡ i = length-take-le i rs (omega arith) in
       let l : length (encoded_run shape front) ≡ size_of shape * i = n ∙ ap (λ k. size_of shape * k) m in
       let less : size_of shape * i ≤ size_of shape * length rs = mul-le-mul_left (size_of shape) (omega arith) in
-      ap (λ b. overlay b place (encoded shape r)) p
-      ∙ overlay_more page at (encoded_run shape front) (encoded shape r) place (omega arith) (omega arith)
-      ∙ ap (overlay page at) (sym (ap (encoded_run shape) (take_nth rs i r h q) ∙ run_push front r))
+      rw (p, overlay_more page at (encoded_run shape front) (encoded shape r) place (omega arith) (omega arith), ← run_push front r, ← take_nth rs i r h q)

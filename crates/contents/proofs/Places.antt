@@ -1,20 +1,13 @@
 -- Records by their places on a page.
-use Rattle.std.proofs.Common.{◌≡◌, ℕ, ◌+◌, ◌-◌, ◌*◌, ◌<◌, ◌≤◌, List, length, drop, Some, None, Option, sym, ap, ◌∙◌, add-mul, mul-le-mul_left, mul-one, mul-add, arith, length-drop, drop-drop, MatchOption}
+use Rattle.std.proofs.lemmas.Grind.{common_steps}
+use Rattle.std.proofs.Common.{◌≡◌, ℕ, ◌+◌, ◌-◌, ◌*◌, ◌<◌, ◌≤◌, List, length, drop, Some, None, Option, sym, ap, ◌∙◌, arith, length-drop, drop-drop, MatchOption}
 use Rattle.std.specs.List.{slice_get}
-use Rattle.records.specs.Bytes.{width_of}
 use Rattle.records.specs.Shapes.{Shape, size_of, decoded, decoded_run}
-use Rattle.networks.proofs.Numbers.{below_nth}
 use Rattle.records.proofs.Passing.{nth_run}
 
 -- the k-th of the records has room
 pub room : (from size count k len : ℕ) → k < count → from + size * count ≤ len → from + size * k + size ≤ len
-room from size count k len h l =
-    let m : size * (k + 1) ≤ size * count = mul-le-mul_left size (omega arith) in
-    omega (arith, mul-add size k 1, mul-one size)
-
--- so has a record of a run that has room
-pub row_room : {R : Type 0} (shape : Shape R) (at : ℕ) (rs : List R) (k : ℕ) (r : R) (len : ℕ) → Some r ≡ slice_get rs k → at + size_of shape * length rs ≤ len → at + size_of shape * k + size_of shape ≤ len
-row_room shape at rs k r len e l = room at (size_of shape) (length rs) k len (below_nth rs k r e) l
+room from size count k len h l = grind (arith, common_steps)
 
 pub front_is : {R : Type 0} (shape : Shape R) (r : Option R) (bs : List ℕ) → MatchOption r (length bs < size_of shape) (λ x. (size_of shape ≤ length bs) × (x ≡ decoded shape bs)) → size_of shape ≤ length bs → r ≡ Some (decoded shape bs)
 front_is shape None bs h l = absurd (omega arith)

@@ -1,7 +1,9 @@
 -- What retracing says of an accepted page, in the words of routes and costs.
-use Rattle.std.proofs.Common.{◌≡◌, ℕ, zero, suc, ◌^◌, ◌<◌, ◌≤◌, Bool, true, false, cond, ◌↔◌, List, [], ◌∷◌, map, length, take, Some, None, Option, sym, refl, ap, ◌∙◌, arith}
-use Rattle.std.specs.List.{AllByRecursion, slice_get}
+use Rattle.std.proofs.Common.{◌≡◌, ℕ, suc, ◌^◌, ◌<◌, ◌≤◌, Bool, true, false, cond, ◌↔◌, List, [], ◌∷◌, map, length, take, Some, None, Option, sym, refl, ap, ◌∙◌, subst, arith}
+use Rattle.std.specs.List.{slice_get}
 use Rattle.std.proofs.lemmas.Bool.{false≢true}
+use Rattle.std.proofs.lemmas.List.Elements.{All-from_recursion}
+use Rattle.std.proofs.lemmas.Option.{cond_some, get_or_from_slice_get, slice_get_within}
 use Rattle.amounts.specs.declared.cost.Cost as cost
 use Rattle.amounts.specs.Amount.{Laws}
 use Rattle.amounts.specs.Forms.{SectionLaws}
@@ -21,14 +23,12 @@ use Rattle.contents.specs.Retracing.{sections_of, walked, walks, retraced, Retra
 use Rattle.contents.proofs.Answers.{meaning, meaning_steps}
 use Rattle.contents.proofs.Routing.{Ends, walks_right, right_walks}
 
-all_nth : {X : Type 0} (P : X → Type 0) (xs : List X) (k : ℕ) (x : X) → AllByRecursion P xs → slice_get xs k ≡ Some x → P x
-all_nth P [] k x h e = absurd (let z : ◌≡◌ {A = ℕ} 0 1 = cc in omega arith)
-all_nth P (y ∷ ys) zero x h e = let z : y ≡ x = cc in rw (sym z) h.0
-all_nth P (y ∷ ys) (suc k) x h e = all_nth P ys k x h.1 e
-
 module _ {C L S : Type 0} (c : cost.Ghosts C L S) (laws : Laws c.ops) (fit : SectionLaws c.ops c.worth c.parts c.made) (net : Net S) (range : InRange c.parts net) where
   pub small : (k : ℕ) (x : Section S) → slice_get net.sections k ≡ Some x → c.ops.size (c.worth x.amount) < 2 ^ 32
-  small k x e = (fit.fit x.amount (all_nth (SectionInRange c.parts net.stations) net.sections k x range.each e).amount).small
+  small k x e =
+      let In : Section S → Type 0 = SectionInRange c.parts net.stations in
+      let here = All-from_recursion In net.sections range.each k x (slice_get_within net.sections k x e) in
+      (fit.fit x.amount (subst In (get_or_from_slice_get net.sections k x x e) here).amount).small
 
   from_zero : (a : L) → c.ops.plus c.ops.zero a ≡ a
   from_zero a = laws.comm c.ops.zero a ∙ laws.unit a
@@ -67,14 +67,10 @@ module _ {C L S : Type 0} (c : cost.Ghosts C L S) (laws : Laws c.ops) (fit : Sec
   ends_told total [] = tt
   ends_told total (p ∷ ps) = (λ x e. ap to_of e, ends_told total ps)
 
-  some_is : (b : Bool) (x m : Meant L) → cond b (Some x) None ≡ Some m → x ≡ m
-  some_is true x m e = cc
-  some_is false x m e = cc
-
   ends_in : (m : Meant L) → answer_of c bs ≡ Some m → Ends c laws (net_of c bs) (small c laws fit (net_of c bs) range) m.cost m.steps
   ends_in m e =
       let a = decoded answer_shape (answer_bytes bs) in
-      let same = some_is (has_answer (answer_bytes bs)) (meaning c bs a) m e in
+      let same = (cond_some (has_answer (answer_bytes bs)) (meaning c bs a) m e).1 in
       rw (sym same) (ends_told (meaning c bs a).cost (decoded_run step_shape a.steps (step_bytes (answer_bytes bs))))
 
   few_in : length (steps_in (answer_of c bs)) ≤ 2 ^ 20

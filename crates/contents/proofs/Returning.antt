@@ -1,7 +1,6 @@
 -- A page's content, written and read back, and a page's bytes, read and written again.
-use Rattle.std.proofs.Common.{◌≡◌, ℕ, ◌+◌, ◌*◌, ◌<◌, ◌≤◌, Bool, true, false, cond, ltb, List, [], ◌∷◌, ◌++◌, map, length, drop, Some, None, Ok, Option, sym, refl, ap, ◌∙◌, ap₂, arith, lit<}
+use Rattle.std.proofs.Common.{◌≡◌, ℕ, ◌+◌, ◌*◌, ◌≤◌, Bool, true, false, cond, ltb, List, [], ◌∷◌, ◌++◌, map, length, drop, Some, None, Ok, Option, sym, refl, ap, ◌∙◌, ap₂, arith}
 use Rattle.std.proofs.lemmas.List.{length-append, length-map, take-append-drop}
-use Rattle.std.proofs.ByRecursion.{All-append}
 use Rattle.std.proofs.lemmas.Bool.{lt-ltb, cond-true}
 use Rattle.amounts.specs.declared.cost.Cost as cost
 use Rattle.networks.specs.declared.section.Section.{Section}
@@ -14,17 +13,15 @@ use Rattle.records.specs.Shapes.{decoded, encoded, decoded_run, encoded_run}
 use Rattle.std.specs.Result.{result_and}
 use Rattle.records.specs.Due.{due_record, due_run}
 use Rattle.records.specs.Layout.{header_shape, section_shape, estimate_shape, answer_shape, step_shape, end_shape}
-use Rattle.records.proofs.Passing.{both, due_stands, length-decoded_run, encoded_all, decoded-encoded, encoded-decoded, decoded_fits, due_written, length-encoded_run, encoded_run_all, run_stands}
+use Rattle.contents.proofs.Accepting.{section_bytes_all, estimate_bytes_all, answer_bytes_all}
+use Rattle.records.proofs.Coding.{bytes_drop}
+use Rattle.records.proofs.Passing.{both, due_stands, length-decoded_run, decoded-encoded, encoded-decoded, decoded_fits, due_written, length-encoded_run, run_stands}
 use Rattle.contents.specs.Checks.{header_of, section_bytes, estimate_bytes, answer_bytes, has_answer, step_bytes, step_count, limits_of, limits_for, due_end, due_answer, check_page}
 use Rattle.contents.specs.Content.{Meant, Content, section_from, pair_from, step_from, net_of, pairs_of, meant_by, content_of}
 use Rattle.contents.specs.Encoding.{section_record, estimate_record, step_record, answer_record, header_record, answer_encoded, encode, StepValid, MeantValid, AnswerValid, Valid, PageLaws}
-use Rattle.contents.proofs.Accepting.{bytes_drop}
 use Rattle.contents.proofs.Checking.{answer_ends, page_answer}
 use Rattle.records.specs.Laws.{header_laws, section_laws, estimate_laws, answer_laws, step_laws}
 use Rattle.contents.proofs.Forming.{Turns, run_passes, run_reads, run_after, run_valid, run_back, section_turns, estimate_turns, step_turns, header_fits, header_good, header_read, answer_fits, answer_good, answer_there, answer_back, answer_valid}
-
-bytes_append : (xs ys : List ℕ) → Bytes xs → Bytes ys → Bytes (xs ++ ys)
-bytes_append = All-append (λ b. b < 256)
 
 -- the end of a page
 abbrev end : List ℕ
@@ -60,19 +57,6 @@ module _ {C L S : Type 0} (c : cost.Ghosts C L S) where
       cond (has_answer rest) (Some (meant_by c sections a (decoded_run step_shape a.steps (step_bytes rest)))) None
 
   -- Bytes and their number -----------------------------------------------------------------------
-
-  answer_all : (o : Option (Meant L)) → Bytes (ends o)
-  answer_all None = (lit< tt, tt)
-  answer_all (Some m) =
-      bytes_append (encoded answer_shape (answer_record c m)) (steps_on m) (encoded_all answer_shape answer_laws (answer_record c m))
-      (bytes_append (encoded_run step_shape (map (step_record c) m.steps)) end (encoded_run_all step_shape step_laws (map (step_record c) m.steps)) (lit< tt, tt))
-
-  pub encode_all : (x : Content L S) → Bytes (encode c x)
-  encode_all x =
-      bytes_append (encoded header_shape (header_record c x.network)) (sections_on x) (encoded_all header_shape header_laws (header_record c x.network))
-      (bytes_append (encoded_run section_shape (map (section_record c) x.network.sections)) (estimates_on x) (encoded_run_all section_shape section_laws (map (section_record c) x.network.sections))
-      (bytes_append (encoded_run estimate_shape (map (estimate_record c) x.estimates)) (ends x.answer) (encoded_run_all estimate_shape estimate_laws (map (estimate_record c) x.estimates))
-      (answer_all x.answer)))
 
   pub answer_length : (m : Meant L) → length (answer_encoded c (Some m)) ≡ 20 + 13 * length m.steps
   answer_length m =
@@ -234,16 +218,15 @@ module _ {C L S : Type 0} (c : cost.Ghosts C L S) (laws : PageLaws c) where
       let t = both (due_run estimate_shape limits len h.stations (estimate_bytes bs)) _ tt q.2 in
       let here = due_stands header_shape (limits_for c.KIND) len bs p.0 p.1 in
       let r = header_read c laws h here.good in
-      let all₁ = bytes_drop 10 bs all in
-      let all₂ = bytes_drop (12 * h.sections) (section_bytes bs) all₁ in
-      let all₃ = bytes_drop (21 * h.stations) (estimate_bytes bs) all₂ in
+      let all₁ = section_bytes_all bs all in
+      let all₂ = estimate_bytes_all bs all in
       let sections = section_turns c laws h r.2 in
       let estimates = estimate_turns c laws h in
       let run₁ = run_stands section_shape section_laws limits len h.sections (section_bytes bs) all₁ q.1 in
       let run₂ = run_stands estimate_shape estimate_laws limits len h.stations (estimate_bytes bs) all₂ t.1 in
       let n₁ : length net.sections ≡ h.sections = length-map (decoded_run section_shape h.sections (section_bytes bs)) (section_from c) ∙ length-decoded_run section_shape h.sections (section_bytes bs) in
       let n₂ = length-map (decoded_run estimate_shape h.stations (estimate_bytes bs)) (pair_from c) ∙ length-decoded_run estimate_shape h.stations (estimate_bytes bs) in
-      let again = answer_again h net refl n₁ r.3 len (answer_bytes bs) all₃ t.2 in
+      let again = answer_again h net refl n₁ r.3 len (answer_bytes bs) (answer_bytes_all bs all) t.2 in
       let front = ap₂ (λ k n. encoded header_shape (record { kind = k; stations = h.stations; sections = n; launcher = h.launcher; trap = h.trap })) (sym r.0) n₁ ∙ encoded-decoded header_shape header_laws bs all here.fits here.kinded in
       let behind₂ = ap (λ l. encoded_run estimate_shape (map (estimate_record c) (pairs_of c bs)) ++ l) again.0 ∙ run_back estimate_laws estimates h.stations (estimate_bytes bs) all₂ run₂ in
       let behind₁ = ap (λ l. encoded_run section_shape (map (section_record c) net.sections) ++ l) behind₂ ∙ run_back section_laws sections h.sections (section_bytes bs) all₁ run₁ in (

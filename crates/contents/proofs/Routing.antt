@@ -1,7 +1,7 @@
 -- Steps that are walked to the end are a route, and every cost that they show is right.
-use Rattle.std.proofs.Common.{◌≡◌, ℕ, zero, suc, ◌+◌, ◌*◌, ◌^◌, ◌<◌, ◌≤◌, Bool, true, false, cond, not, ◌&&◌, eqb, List, [], ◌∷◌, length, take, Some, None, Option, sym, refl, ap, ◌∙◌, subst, arith}
+use Rattle.std.proofs.Common.{◌≡◌, ℕ, zero, suc, ◌+◌, ◌*◌, ◌^◌, ◌<◌, ◌≤◌, true, false, not, ◌&&◌, eqb, List, [], ◌∷◌, length, take, Some, None, Option, sym, refl, ap, ◌∙◌, subst, arith}
 use Rattle.std.specs.List.{AllByRecursion, slice_get}
-use Rattle.std.proofs.lemmas.Bool.{and_parts, eqb-true, eq-eqb, le-leb}
+use Rattle.std.proofs.lemmas.Bool.{and_parts, eqb-true, eq-eqb, le-leb, not-true}
 use Rattle.amounts.specs.declared.cost.Cost as cost
 use Rattle.amounts.specs.Amount.{Laws, computed}
 use Rattle.networks.specs.declared.section.Section.{Section}
@@ -25,7 +25,7 @@ module _ {C L S : Type 0} (c : cost.Ghosts C L S) (laws : Laws c.ops) (net : Net
 
   -- a small sum is exact
   exact : (a w : L) → c.ops.size a + c.ops.size w ≤ 2 ^ 60 → (computed c.ops).plus a w ≡ c.ops.plus a w
-  exact a w h = ap (λ t. cond t (c.ops.plus a w) c.ops.zero) (le-leb _ _ h)
+  exact a w h = rw (le-leb _ _ h)
 
   -- the steps name their sections' ends
   abbrev pub Ends : List (Step L) → Type 0
@@ -39,24 +39,17 @@ module _ {C L S : Type 0} (c : cost.Ghosts C L S) (laws : Laws c.ops) (net : Net
     pub here : section.from ≡ u
     pub cost : (computed c.ops).plus a (c.worth section.amount) ≡ s.so_far
 
-  not_true : (b : Bool) → not b ≡ true → b ≡ false
-  not_true true e = cc
-  not_true false e = refl
-
   step_open : (u : ℕ) (a : L) (s : Step L) (o : Option (Section S)) → slice_get net.sections s.section ≡ o → step_right c u a s o ≡ true → Open u a s
   step_open u a s None e r = cc
   step_open u a s (Some x) e r =
       let p = and_parts (not x.shut) _ r in
       let q = and_parts (eqb x.from u) _ p.1 in
-      record { section = x; there = e; «open» = not_true x.shut p.0; here = eqb-true x.from u q.0; cost = same_eq _ _ q.1 }
+      record { section = x; there = e; «open» = not-true x.shut p.0; here = eqb-true x.from u q.0; cost = same_eq _ _ q.1 }
 
   open_step : (u : ℕ) (a : L) (s : Step L) → Open u a s → step_right c u a s (slice_get net.sections s.section) ≡ true
   open_step u a s p =
       let x = p.section in
-      ap (step_right c u a s) p.there
-      ∙ ap (λ b. not b && (eqb x.from u && same c ((computed c.ops).plus a (c.worth x.amount)) s.so_far)) p.«open»
-      ∙ ap (λ b. b && same c ((computed c.ops).plus a (c.worth x.amount)) s.so_far) (eq-eqb _ _ p.here)
-      ∙ eq_same _ _ p.cost
+      rw (p.there, p.«open», eq-eqb _ _ p.here) (eq_same _ _ p.cost)
 
   -- the cost of a route with one section more in front
   module _ (u : ℕ) (a : L) (s : Step L) (x : Section S) (there : slice_get net.sections s.section ≡ Some x) (sum : c.ops.plus a (c.worth x.amount) ≡ s.so_far) where
@@ -91,8 +84,7 @@ module _ {C L S : Type 0} (c : cost.Ghosts C L S) (laws : Laws c.ops) (net : Net
       each_of u a s ss x there sum later (suc k) t e = later k t e ∙ regroup u a s x there sum (take (suc k) (sections_of ss))
 
   pub right_walks : (n : ℕ) (steps : List (Step L)) (u : ℕ) (a : L) → c.ops.size a ≤ n * 2 ^ 32 → n + length steps ≤ 2 ^ 20 → Ends steps → Right u a steps → walks c net u a total steps ≡ true
-  right_walks n [] u a h l ends r =
-      ap (λ b. b && same c a total) (eq-eqb u net.trap r.joined) ∙ eq_same a total (sym (r.whole ∙ laws.unit a))
+  right_walks n [] u a h l ends r = rw (eq-eqb u net.trap r.joined) (eq_same a total (sym (r.whole ∙ laws.unit a)))
   right_walks n (s ∷ ss) u a h l ends r =
       let x = r.joined.0 in
       let there = r.joined.1 in

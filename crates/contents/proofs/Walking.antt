@@ -1,45 +1,25 @@
 -- An answer's steps, walked one at a time.
-use Rattle.std.proofs.Common.{◌≡◌, ℕ, ◌+◌, ◌≤◌, Bool, true, false, ◌&&◌, eqb, List, length, drop, Some, Option, sym, ap, ◌∙◌}
+use Rattle.std.proofs.Common.{◌≡◌, ℕ, ◌+◌, ◌≤◌, Bool, true, false, ◌&&◌, eqb, List, length, drop, Some}
 use Rattle.std.specs.List.{slice_get}
 use Rattle.std.proofs.lemmas.List.{drop_all}
 use Rattle.amounts.specs.declared.cost.Cost as cost
 use Rattle.networks.specs.Nets.{Net}
-use Rattle.std.specs.Option.{option_map}
 use Rattle.networks.proofs.Numbers.{drop_nth}
 use Rattle.contents.specs.declared.answer.Step.{Step}
-use Rattle.contents.specs.declared.answer.Answer.{Answer}
-use Rattle.contents.specs.declared.answer.Outcome.{Outcome}
-use Rattle.contents.specs.declared.answer.Outcome.TheVariants.{Found, NoRoute}
-use Rattle.contents.specs.Content.{Meant, filed_by, steps_in}
-use Rattle.contents.proofs.Answers.{filed_some}
-use Rattle.contents.specs.Retracing.{same, step_right, walks, walked, retraced}
+use Rattle.contents.specs.Retracing.{same, step_right, walks}
 
 module _ {C L S : Type 0} (c : cost.Ghosts C L S) (net : Net S) (total : L) (steps : List (Step L)) (k : ℕ) (u : ℕ) (a : L) where
   abbrev left : Bool
   left = walks c net u a total (drop k steps)
 
   walk_at : (s : Step L) → Some s ≡ slice_get steps k → left ≡ (step_right c u a s (slice_get net.sections s.section) && walks c net s.to s.so_far total (drop (k + 1) steps))
-  walk_at s e = ap (walks c net u a total) (drop_nth steps k s e)
+  walk_at s e = rw (drop_nth steps k s e)
 
   pub walk_more : (s : Step L) → Some s ≡ slice_get steps k → true ≡ step_right c u a s (slice_get net.sections s.section) → walks c net s.to s.so_far total (drop (k + 1) steps) ≡ left
-  walk_more s e r = sym (walk_at s e ∙ ap (λ b. b && walks c net s.to s.so_far total (drop (k + 1) steps)) (sym r))
+  walk_more s e r = rw (walk_at s e, ← r)
 
   pub walk_stops : (s : Step L) → Some s ≡ slice_get steps k → false ≡ step_right c u a s (slice_get net.sections s.section) → false ≡ left
-  walk_stops s e r = sym (walk_at s e ∙ ap (λ b. b && walks c net s.to s.so_far total (drop (k + 1) steps)) (sym r))
+  walk_stops s e r = rw (walk_at s e, ← r)
 
   pub walk_all : length steps ≤ k → left ≡ (eqb u net.trap && same c a total)
-  walk_all h = ap (walks c net u a total) (drop_all k steps h)
-
--- an answer is retraced by its outcome
-module _ {C L S : Type 0} (c : cost.Ghosts C L S) (net : Net S) (o : Option (Meant L)) (f : Answer L ℕ) (told : Some f ≡ option_map filed_by o) where
-  retraced_by : (x : Outcome) → f.outcome ≡ x → walked c net x f.cost (steps_in o) ≡ retraced c net o
-  retraced_by x e =
-      let p = filed_some o f told in
-      let m = p.0 in
-      ap (λ q. walked c net x f.cost (steps_in q)) p.1
-      ∙ ap (λ a. walked c net x a m.steps) (ap (λ g. g.cost) p.2)
-      ∙ ap (λ y. walked c net y m.cost m.steps) (sym e ∙ ap (λ g. g.outcome) p.2)
-      ∙ sym (ap (retraced c net) p.1)
-
-  pub retraced_found : f.outcome ≡ Found → walks c net net.launcher c.ops.zero f.cost (steps_in o) ≡ retraced c net o
-  retraced_found e = retraced_by Found e
+  walk_all h = rw (drop_all k steps h)

@@ -1,5 +1,5 @@
 -- What a write leaves on the page, and that it reads back.
-use Rattle.std.proofs.Common.{◌≡◌, ℕ, ◌+◌, ◌*◌, ◌≤◌, Bool, true, false, cond, eqb, ltb, List, ◌++◌, map, length, take, drop, Some, None, Ok, Err, Option, sym, refl, ap, ◌∙◌, ap₂, arith}
+use Rattle.std.proofs.Common.{◌≡◌, ℕ, ◌+◌, ◌*◌, ◌≤◌, Bool, true, false, cond, eqb, ltb, List, ◌++◌, map, length, take, drop, Some, None, Ok, Err, Option, sym, refl, ◌∙◌, ap₂, arith}
 use Rattle.std.proofs.lemmas.List.{length-map, take_at}
 use Rattle.std.proofs.lemmas.Bool.{eqb-true, eq-eqb, ltb-false, le-ltb}
 use Rattle.faults.specs.declared.Fault.{Fault}
@@ -15,7 +15,7 @@ use Rattle.records.specs.Due.{page_fault}
 use Rattle.faults.specs.declared.Refusal.TheVariants.{EstimateCount, PageTooShort}
 use Rattle.contents.specs.Writing.{answer_size, needed, answer_fault, write_fault, write_of}
 use Rattle.records.specs.Laws.{section_laws, estimate_laws}
-use Rattle.contents.proofs.Overlays.{overlay_none, overlay_more, overlay_front, overlay_five}
+use Rattle.contents.proofs.Overlays.{overlay_more, overlay_front, overlay_five}
 use Rattle.contents.proofs.Returning.{written_reads, answer_length, encode_length}
 
 module _ {C L S : Type 0} (c : cost.Ghosts C L S) where
@@ -24,10 +24,6 @@ module _ {C L S : Type 0} (c : cost.Ghosts C L S) where
   pub answer_size_lem : (o : Option (Meant L)) → length (answer_encoded c o) ≡ answer_size o
   answer_size_lem None = refl
   answer_size_lem (Some m) = answer_length c m
-
-  -- no answer writes nothing
-  pub none_put : (page : List ℕ) (at : ℕ) (o : Option (Meant L)) → o ≡ None → page ≡ overlay page at (answer_encoded c o)
-  none_put page at o e = rw e (sym (overlay_none page at))
 
   -- an answer's record, and its steps after it
   pub some_put : (page : List ℕ) (at : ℕ) (o : Option (Meant L)) (m : Meant L) {one two : List ℕ} (next : ℕ) → o ≡ Some m
@@ -109,6 +105,6 @@ module _ {C L S : Type 0} (c : cost.Ghosts C L S) where
 
       pub write_back : PageLaws c → Valid c x → Back c x (take n after)
       write_back laws v =
-          let front : take n after ≡ encode c x = ap (take n) stands ∙ take_at (encode c x) (drop (length (encode c x)) page) n (sym encoded_size) in
+          let front : take n after ≡ encode c x = rw stands (take_at (encode c x) (drop (length (encode c x)) page) n (sym encoded_size)) in
           let p = written_reads c laws x v in
           rw front (record { accepted = p.0; same = p.1 })

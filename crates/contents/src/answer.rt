@@ -13,7 +13,7 @@ impl From<u8> for Outcome {
 
     ghost from_gives = { λ number outcome. outcome ≡ outcome_by number };
 
-    /// A page that was read has no number but 0 and 1.
+    /// Any number but 0 reads as no route; a page that was read has none but 0 and 1.
     fn from(number: u8) -> Outcome {
         match number {
             0 => Outcome::Found,
@@ -35,7 +35,8 @@ pub struct Step<L> {
 #[derive(Clone, Copy)]
 pub struct Answer<L, S> {
     pub run: u32,
-    // Kept: beside cost and steps, as on the page; an answer of no route that has some is put in, and refused.
+    // Kept: beside cost and steps, as on the page; an answer of no route that has a cost or steps may be put in, and is
+    // refused.
     pub outcome: Outcome,
     pub cost: L,
     pub taken: usize,

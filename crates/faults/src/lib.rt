@@ -1,8 +1,8 @@
 //! What a call that is turned down says: which refusal, which layer, and where.
 #![tactic(auto)]
 
-ghost use Rattle.std.specs.Prelude.{◌≡◌, Some};
-ghost use Rattle.faults.specs.Faults.{number_of, place_of, side_number, fault_of, network_fault, refused_line};
+ghost use Rattle.std.specs.Prelude.{◌≡◌, [], ◌∷◌, Some};
+ghost use Rattle.faults.specs.Faults.{number_of, place_of, side_number, fault_of, network_fault, ranged_from, refused_line};
 ghost use Rattle.faults.specs.declared.Refusal.TheVariants.{ParameterOutOfRange};
 
 use std::fmt;
@@ -126,6 +126,17 @@ pub fn out_of_range(parameter: usize) -> Fault
     ensures { result ≡ network_fault (ParameterOutOfRange parameter) }
 {
     Layer::Network.fault(Refusal::ParameterOutOfRange { parameter })
+}
+
+/// Whether a call's parameter, counted from 0, passes the test of its range.
+pub fn in_range(parameter: usize, passes: bool) -> Result<(), Fault>
+    ensures { result ≡ ranged_from parameter (passes ∷ []) tt }
+{
+    if passes {
+        Ok(())
+    } else {
+        Err(out_of_range(parameter))
+    }
 }
 
 /// As every program prints it: `refused`, the number and the place.

@@ -1,20 +1,17 @@
 -- What a scan over a list's elements gives of the numbers of those that pass.
-use Rattle.std.proofs.Common.{◌≡◌, ℕ, zero, suc, ◌+◌, ◌-◌, ◌<◌, ◌≤◌, Bool, true, false, cond, List, ◌∷◌, length, drop, replicate, Some, None, Option, sym, ap, ap₂, ◌∙◌, ⊎_elim, add-one, arith}
+use Rattle.std.proofs.Common.{◌≡◌, ℕ, zero, suc, ◌+◌, ◌-◌, ◌<◌, ◌≤◌, Bool, true, false, cond, List, ◌∷◌, length, drop, Some, None, Option, sym, ap, add-one, arith}
 use Rattle.std.proofs.Math.Seq.{drop-cons}
 use Rattle.std.proofs.lemmas.List.{drop_all}
-use Rattle.std.proofs.lemmas.Option.{slice_get_within, slice_get_cases, get_or_from_slice_get, none-some}
-use Rattle.std.specs.List.{AllByRecursion, slice_get}
+use Rattle.std.proofs.lemmas.Option.{slice_get_within, slice_get_cases, get_or_from_slice_get}
+use Rattle.std.specs.List.{slice_get}
 use Rattle.networks.specs.Nets.{numbers}
 
 module _ {X : Type 0} where
-  pub below_nth : (xs : List X) (i : ℕ) (x : X) → Some x ≡ slice_get xs i → i < length xs
-  below_nth xs i x e = slice_get_within xs i x (sym e)
-
   pub past_nth : (xs : List X) (i : ℕ) → None ≡ slice_get xs i → length xs ≤ i
-  past_nth xs i e = ⊎_elim (λ p. absurd (none-some p.0 (e ∙ p.2))) (λ p. p.0) (slice_get_cases xs i).1
+  past_nth xs i e = grind (arith, slice_get_cases)
 
   pub drop_nth : (xs : List X) (i : ℕ) (x : X) → Some x ≡ slice_get xs i → drop i xs ≡ x ∷ drop (i + 1) xs
-  drop_nth xs i x e = drop-cons xs i x (below_nth xs i x e) ∙ ap₂ (λ y n. y ∷ drop n xs) (get_or_from_slice_get xs i x x (sym e)) (sym (add-one i))
+  drop_nth xs i x e = rw (add-one, drop-cons xs i x (slice_get_within xs i x (sym e)), get_or_from_slice_get xs i x x (sym e))
 
   -- what stands at suc k, where a goal has k for k - 1
   nth_more : (y : X) (ys : List X) (k : ℕ) → 0 < k → slice_get (y ∷ ys) k ≡ slice_get ys (k - 1)
@@ -33,18 +30,14 @@ module _ {X : Type 0} (test : X → Bool) (xs : List X) (i : ℕ) where
   at x e = ap (numbers test i) (drop_nth xs i x e)
 
   pub coming_here : (x : X) → Some x ≡ slice_get xs i → test x ≡ true → coming 0 ≡ Some i
-  coming_here x e t = ap (λ l. slice_get l 0) (at x e ∙ ap (λ b. cond b (i ∷ rest) rest) t)
+  coming_here x e t = rw (at x e, t)
 
   pub coming_none : length xs ≤ i → (k : ℕ) → coming k ≡ None
-  coming_none h k = ap (λ l. slice_get (numbers test i l) k) (drop_all i xs h)
+  coming_none h k = rw (drop_all i xs h)
 
 module _ {X : Type 0} (test : X → Bool) (xs : List X) (i : ℕ) where
   pub coming_past : (x : X) → Some x ≡ slice_get xs i → test x ≡ true → (k : ℕ) → 0 < k → coming test xs (i + 1) (k - 1) ≡ coming test xs i k
-  coming_past x e t k h = sym (ap (λ l. slice_get l k) (at test xs i x e ∙ ap (λ b. cond b (i ∷ rest test xs i) (rest test xs i)) t) ∙ nth_more i (rest test xs i) k h)
+  coming_past x e t k h = rw (at test xs i x e, t, nth_more i (rest test xs i) k h)
 
   pub coming_other : (x : X) → Some x ≡ slice_get xs i → test x ≡ false → (k : ℕ) → coming test xs (i + 1) k ≡ coming test xs i k
-  coming_other x e t k = sym (ap (λ l. slice_get l k) (at test xs i x e ∙ ap (λ b. cond b (i ∷ rest test xs i) (rest test xs i)) t))
-
-pub all_replicate : {X : Type 0} (P : X → Type 0) (n : ℕ) (x : X) → P x → AllByRecursion P (replicate n x)
-all_replicate P zero x h = tt
-all_replicate P (suc n) x h = (h, all_replicate P n x h)
+  coming_other x e t k = rw (at test xs i x e, t)

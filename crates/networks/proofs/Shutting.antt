@@ -1,5 +1,5 @@
 -- What a network with sections shut keeps of the one below.
-use Rattle.std.proofs.Common.{◌≡◌, ℕ, zero, suc, ◌+◌, Bool, cond, List, [], ◌∷◌, length, Some, refl, ap, ◌∙◌, arith}
+use Rattle.std.proofs.Common.{◌≡◌, ℕ, zero, suc, ◌+◌, Bool, List, [], ◌∷◌, length, Some, refl, ap, arith}
 use Rattle.std.specs.List.{AllByRecursion, slice_get}
 use Rattle.std.specs.Option.{option_map}
 use Rattle.amounts.specs.declared.cost.SectionForm.{SectionForm}
@@ -21,8 +21,7 @@ module _ {A : Type 0} (kept : List ℕ) where
   pub numbers_shut : (side : Side) (station m n : ℕ) (ss : List (Section A)) → numbers (starts side station) m (shut_from kept n ss) ≡ numbers (starts side station) m ss
   numbers_shut side station m n [] = refl
   numbers_shut side station m n (s ∷ ss) =
-      ap (λ b. cond b (m ∷ numbers (starts side station) (m + 1) (shut_from kept (n + 1) ss)) (numbers (starts side station) (m + 1) (shut_from kept (n + 1) ss))) (starts_shut side station (has kept n) s)
-      ∙ ap (λ l. cond (starts side station s) (m ∷ l) l) (numbers_shut side station (m + 1) (n + 1) ss)
+      rw (starts_shut side station (has kept n) s, numbers_shut side station (m + 1) (n + 1) ss)
 
   -- the numbered section is the one below, and shut too where its number is kept
   nth_from : (n i j : ℕ) (ss : List (Section A)) → n + i ≡ j → slice_get (shut_from kept n ss) i ≡ option_map (shut_if (has kept j)) (slice_get ss i)

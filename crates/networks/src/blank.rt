@@ -5,7 +5,7 @@ ghost use Rattle.networks.specs.Given.{GivenInRange};
 
 use crate::estimates::{Estimates, Pair};
 use amounts::cost::Cost;
-use faults::{Fault, out_of_range};
+use faults::{Fault, in_range};
 use std::marker::Model;
 
 /// The most stations of a network.
@@ -32,9 +32,7 @@ impl Blank {
     pub fn new(count: usize) -> Result<Blank, Fault>
         ensures { result ≡ blank_answer count }
     {
-        if !(1..=MOST_STATIONS).contains(&count) {
-            return Err(out_of_range(0));
-        }
+        in_range(0, (1..=MOST_STATIONS).contains(&count))?;
         Ok(Blank { count })
     }
 }
@@ -52,13 +50,9 @@ impl<C: Cost> Estimates<C> for Blank {
     }
 
     fn pair(&self, station: usize) -> Option<Pair<C::Label>> {
-        if station < self.count {
-            Some(Pair {
-                forward: C::ZERO,
-                backward: C::ZERO,
-            })
-        } else {
-            None
-        }
+        (station < self.count).then_some(Pair {
+            forward: C::ZERO,
+            backward: C::ZERO,
+        })
     }
 }

@@ -13,6 +13,7 @@ pub trait Network<C: Cost> {
     ghost meaning: { Self → Net C.Section };
 
     /// How many stations there are. The whole meaning is in range.
+    // Kept: a clause and no law, so that an implementation may owe the range to what it keeps true of itself.
     fn stations(&self) -> usize
         ensures count { result ≡ (meaning self.now).stations }
         ensures range { InRange C.Cost.parts (meaning self.now) };

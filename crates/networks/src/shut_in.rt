@@ -1,5 +1,5 @@
 //! A layer over any network that shuts some of its sections.
-ghost use Rattle.std.specs.Prelude.{◌≡◌, []};
+ghost use Rattle.std.specs.Prelude.{◌≡◌, ◌≤◌, [], length};
 ghost use Rattle.std.specs.List.{slice_get};
 ghost use Rattle.std.specs.Option.{option_map};
 ghost use Rattle.networks.specs.Shut.{has, shut_in, shut_if, shutting};
@@ -30,6 +30,14 @@ impl<N> ShutIn<N> {
             below,
             kept: ArrayVec::new(),
         }
+    }
+
+    /// The numbers that are kept, in the order in which they came.
+    pub fn kept(&self) -> &[usize]
+        ensures value { result.now ≡ self.now.kept.items }
+        ensures few { length self.now.kept.items ≤ 64 }
+    {
+        self.kept.as_slice()
     }
 
     /// Shuts one section more; a number that is kept already is kept once. Refused, it changes nothing.

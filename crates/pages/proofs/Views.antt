@@ -1,10 +1,10 @@
 -- What a view's invariants tell.
-use Rattle.std.proofs.Common.{◌≡◌, ◌*◌, true, length}
+use Rattle.std.proofs.Common.{◌≡◌, true, length}
 use Rattle.amounts.specs.declared.cost.Cost as cost
 use Rattle.records.specs.Bytes.{Bytes}
 use Rattle.pages.specs.declared.view.PageView.{PageView}
-use Rattle.contents.specs.Checks.{header_of, section_bytes, estimate_bytes, answer_bytes, has_answer, limits_of}
-use Rattle.contents.proofs.Accepting.{Accepted, accepted, Answered, answered, bytes_from_test, bytes_drop}
+use Rattle.contents.specs.Checks.{header_of, answer_bytes, has_answer, limits_of}
+use Rattle.contents.proofs.Accepting.{Accepted, accepted, Answered, answered, answer_bytes_all, bytes_from_test}
 
 module _ {C L S : Type 0} {c : cost.Ghosts C L S} (v : PageView C L S c) where
   pub view_bytes : Bytes v.bytes.now
@@ -16,5 +16,4 @@ module _ {C L S : Type 0} {c : cost.Ghosts C L S} (v : PageView C L S c) where
   pub view_answered : has_answer (answer_bytes v.bytes.now) ≡ true → Answered (limits_of v.header.kind (header_of v.bytes.now)) (answer_bytes v.bytes.now)
   view_answered there =
       let bs = v.bytes.now in
-      let all = bytes_drop (21 * (header_of bs).stations) (estimate_bytes bs) (bytes_drop (12 * (header_of bs).sections) (section_bytes bs) (bytes_drop 10 bs view_bytes)) in
-      answered (limits_of v.header.kind (header_of bs)) (length bs) (answer_bytes bs) all there view_accepted.answer
+      answered (limits_of v.header.kind (header_of bs)) (length bs) (answer_bytes bs) (answer_bytes_all bs view_bytes) there view_accepted.answer

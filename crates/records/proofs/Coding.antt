@@ -3,17 +3,16 @@ use Rattle.std.proofs.Common.{◌≡◌, ℕ, zero, suc, ◌+◌, ◌*◌, ◌/�
 use native.Mathlib.Nat.{pow-zero}
 use lib.Seq.{get_or_at}
 use Rattle.std.proofs.lemmas.List.{length_push}
-use Rattle.std.proofs.ByRecursion.{All-append, All-push}
+use Rattle.std.proofs.lemmas.List.Elements.{All-from_recursion, recursion_from_All, All-drop}
 use Rattle.records.specs.Bytes.{number_at, bytes_of, fields_at, body_of, width_of, Fits, Bytes}
+
+pub bytes_drop : (n : ℕ) (bs : List ℕ) → Bytes bs → Bytes (drop n bs)
+bytes_drop n bs h = recursion_from_All _ (drop n bs) (All-drop (λ b. b < 256) n bs (All-from_recursion _ bs h))
 
 -- the bytes of a number
 pub length-bytes : (w n : ℕ) → length (bytes_of w n) ≡ w
 length-bytes zero n = refl
 length-bytes (suc w) n = length_push (bytes_of w (n / 256)) (n % 256) ∙ omega (arith, length-bytes w (n / 256))
-
-pub bytes_all : (w n : ℕ) → Bytes (bytes_of w n)
-bytes_all zero n = tt
-bytes_all (suc w) n = All-push (λ b. b < 256) (bytes_of w (n / 256)) (n % 256) (bytes_all w (n / 256)) (omega arith)
 
 -- the number of some bytes
 byte_below : (bs : List ℕ) (i : ℕ) → Bytes bs → get_or bs i 0 < 256
@@ -51,13 +50,8 @@ bytes_number (suc w) i bs all h =
 -- the bytes of fields
 pub length-body : (ws vs : List ℕ) → length (body_of ws vs) ≡ width_of ws
 length-body [] vs = refl
-length-body (w ∷ ws) [] = length-append (bytes_of w 0) (body_of ws []) ∙ ap₂ (λ m n. m + n) (length-bytes w 0) (length-body ws [])
-length-body (w ∷ ws) (v ∷ vs) = length-append (bytes_of w v) (body_of ws vs) ∙ ap₂ (λ m n. m + n) (length-bytes w v) (length-body ws vs)
-
-pub body_all : (ws vs : List ℕ) → Bytes (body_of ws vs)
-body_all [] vs = tt
-body_all (w ∷ ws) [] = All-append (λ b. b < 256) (bytes_of w 0) (body_of ws []) (bytes_all w 0) (body_all ws [])
-body_all (w ∷ ws) (v ∷ vs) = All-append (λ b. b < 256) (bytes_of w v) (body_of ws vs) (bytes_all w v) (body_all ws vs)
+length-body (w ∷ ws) [] = simp (length-append, length-bytes, length-body ws [])
+length-body (w ∷ ws) (v ∷ vs) = simp (length-append, length-bytes, length-body ws vs)
 
 -- the fields of some bytes
 pub length_fields : (ws bs : List ℕ) (i : ℕ) → length (fields_at ws bs i) ≡ length ws

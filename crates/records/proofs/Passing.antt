@@ -1,16 +1,16 @@
 -- Records and runs of them, to bytes and back, and what stands where one passed.
+use Rattle.std.proofs.lemmas.Grind.{common_steps}
 use Rattle.std.proofs.Common.{◌≡◌, ℕ, zero, suc, ◌+◌, ◌*◌, ◌<◌, ◌≤◌, Bool, true, false, cond, eqb, ltb, List, [], ◌∷◌, ◌++◌, length, get_or, take, drop, Some, None, Ok, Err, Result, sym, refl, ap, ◌∙◌, ap₂, append_assoc, mul-zero, mul-suc, arith, length-append, length-drop, drop-drop, take-add, drop_at}
 use Rattle.std.specs.List.{AllByRecursion, slice_get}
-use Rattle.std.proofs.ByRecursion.{All-append, All-drop}
 use Rattle.std.proofs.lemmas.Option.{slice_get_past}
-use Rattle.std.proofs.lemmas.Bool.{le-ltb, eq-eqb, ltb-false, eqb-true}
+use Rattle.std.proofs.lemmas.Bool.{ltb-false, eqb-true}
 use Rattle.faults.specs.declared.Fault.{Fault}
 use Rattle.records.specs.declared.limits.Limits.{Limits}
 use Rattle.records.specs.Bytes.{fields_at, body_of, width_of, Fits, Bytes}
 use Rattle.records.specs.Shapes.{Shape, ShapeLaws, size_of, encoded, decoded, decoded_run, encoded_run}
 use Rattle.std.specs.Result.{result_and}
 use Rattle.records.specs.Due.{due_record, due_run}
-use Rattle.records.proofs.Coding.{length-body, body_all, length_fields, fields_fit, fields_body, body_fields}
+use Rattle.records.proofs.Coding.{bytes_drop, length-body, length_fields, fields_fit, fields_body, body_fields}
 
 -- what was passed on the way to an answer
 picks : {A : Type 0} (b : Bool) (f : Fault) (a : Result A Fault) (x : A) → cond b (Err f) a ≡ Ok x → (b ≡ false) × (a ≡ Ok x)
@@ -69,9 +69,6 @@ module _ {R : Type 0} (shape : Shape R) (laws : ShapeLaws shape) where
   pub length-encoded : (r : R) → length (encoded shape r) ≡ size_of shape
   length-encoded r = omega (arith, length-body shape.widths (shape.fields r))
 
-  pub encoded_all : (r : R) → Bytes (encoded shape r)
-  encoded_all r = (laws.byte, body_all shape.widths (shape.fields r))
-
   pub decoded-encoded : (r : R) (rest : List ℕ) → Fits shape.widths (shape.fields r) → decoded shape (encoded shape r ++ rest) ≡ r
   decoded-encoded r rest f = ap shape.of (fields_body shape.widths (shape.fields r) (shape.byte ∷ []) rest f) ∙ laws.of_fields r
 
@@ -89,9 +86,7 @@ module _ {R : Type 0} (shape : Shape R) (laws : ShapeLaws shape) where
 
   -- where a record is due
   pub due_written : (limits : Limits) (len : ℕ) (r : R) (rest : List ℕ) → Fits shape.widths (shape.fields r) → shape.good limits r ≡ true → due_record shape limits len (encoded shape r ++ rest) ≡ Ok r
-  due_written limits len r rest f g =
-      let l : size_of shape ≤ length (encoded shape r ++ rest) = omega (arith, length-append (encoded shape r) rest, length-encoded r) in
-      rw (eq-eqb shape.byte shape.byte refl, le-ltb _ _ l, decoded-encoded r rest f, g)
+  due_written limits len r rest f g = grind (arith, common_steps, length-append, length-encoded, decoded-encoded)
 
   -- a run's bytes
   pub length-encoded_run : (rs : List R) → length (encoded_run shape rs) ≡ size_of shape * length rs
@@ -100,21 +95,15 @@ module _ {R : Type 0} (shape : Shape R) (laws : ShapeLaws shape) where
       length-append (encoded shape r) (encoded_run shape rs)
       ∙ omega (arith, length-encoded r, length-encoded_run rs, mul-suc (size_of shape) (length rs))
 
-  pub encoded_run_all : (rs : List R) → Bytes (encoded_run shape rs)
-  encoded_run_all [] = tt
-  encoded_run_all (r ∷ rs) = All-append (λ b. b < 256) (encoded shape r) (encoded_run shape rs) (encoded_all r) (encoded_run_all rs)
-
   pub run_decoded : (rs : List R) (rest : List ℕ) → AllByRecursion (λ r. Fits shape.widths (shape.fields r)) rs → decoded_run shape (length rs) (encoded_run shape rs ++ rest) ≡ rs
   run_decoded [] rest f = refl
   run_decoded (r ∷ rs) rest f =
       let more : List ℕ = encoded_run shape rs ++ rest in
-      ap (decoded_run shape (length (r ∷ rs))) (append_assoc (encoded shape r) (encoded_run shape rs) rest)
-      ∙ ap₂ (λ q qs. q ∷ qs) (decoded-encoded r more f.0)
-      (ap (decoded_run shape (length rs)) (drop_at (encoded shape r) more (size_of shape) (length-encoded r)) ∙ run_decoded rs rest f.1)
+      rw (append_assoc (encoded shape r) (encoded_run shape rs) rest, decoded-encoded r more f.0, drop_at (encoded shape r) more (size_of shape) (length-encoded r), run_decoded rs rest f.1)
 
   pub run_fits : (n : ℕ) (bs : List ℕ) → Bytes bs → AllByRecursion (λ r. Fits shape.widths (shape.fields r)) (decoded_run shape n bs)
   run_fits zero bs all = tt
-  run_fits (suc n) bs all = (decoded_fits bs all, run_fits n (drop (size_of shape) bs) (All-drop (λ b. b < 256) (size_of shape) bs all))
+  run_fits (suc n) bs all = (decoded_fits bs all, run_fits n (drop (size_of shape) bs) (bytes_drop (size_of shape) bs all))
 
   -- where a run is due
   pub run_written : (limits : Limits) (len : ℕ) (rs : List R) (rest : List ℕ) → AllByRecursion (λ r. Fits shape.widths (shape.fields r)) rs → AllByRecursion (λ r. shape.good limits r ≡ true) rs → due_run shape limits len (length rs) (encoded_run shape rs ++ rest) ≡ Ok tt
@@ -133,7 +122,7 @@ module _ {R : Type 0} (shape : Shape R) (laws : ShapeLaws shape) where
       let rest : List ℕ = drop (size_of shape) bs in
       let p = both (due_record shape limits len bs) (due_run shape limits len n rest) tt e in
       let here = due_stands shape limits len bs p.0 p.1 in
-      let more = run_stands limits len n rest (All-drop (λ b. b < 256) (size_of shape) bs all) p.2 in
+      let more = run_stands limits len n rest (bytes_drop (size_of shape) bs all) p.2 in
       let m : size_of shape * suc n ≡ size_of shape + size_of shape * n = omega (arith, mul-suc (size_of shape) n) in
       record {
         fits = omega (arith, length-drop (size_of shape) bs);

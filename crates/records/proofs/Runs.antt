@@ -1,5 +1,5 @@
 -- A run of records, one at a time from its front.
-use Rattle.std.proofs.Common.{◌≡◌, ℕ, suc, ◌+◌, ◌-◌, ◌<◌, ◌≤◌, List, drop, Ok, Err, Result, sym, ap, ◌∙◌, ap₂, arith}
+use Rattle.std.proofs.Common.{◌≡◌, ℕ, suc, ◌+◌, ◌-◌, ◌<◌, List, drop, Ok, Result, arith}
 use Rattle.std.specs.Result.{result_and}
 use Rattle.faults.specs.declared.Fault.{Fault}
 use Rattle.records.specs.declared.limits.Limits.{Limits}
@@ -14,17 +14,11 @@ module _ {R : Type 0} (shape : Shape R) (limits : Limits) (len : ℕ) (n i : ℕ
   behind = due_run shape limits len (n - (i + 1)) (drop (size_of shape) bs)
 
   run_at : i < n → left ≡ result_and (due_record shape limits len bs) behind
-  run_at h = let e : n - i ≡ suc (n - (i + 1)) = omega arith in ap (λ m. due_run shape limits len m bs) e
+  run_at h = let e : n - i ≡ suc (n - (i + 1)) = omega arith in rw e
 
   -- and what is behind it, by its parts
   pub run_more : (r : R) → i < n → Ok r ≡ due_record shape limits len bs
       → (limits' : Limits) (len' : ℕ) (bs' : List ℕ) → limits' ≡ limits → len' ≡ len → bs' ≡ drop (size_of shape) bs
       → due_run shape limits' len' (n - (i + 1)) bs' ≡ left
   run_more r h e limits' len' bs' p q t =
-      ap₂ (λ k l. due_run shape k l (n - (i + 1)) bs') p q ∙ ap (due_run shape limits len (n - (i + 1))) t ∙ sym (run_at h ∙ ap (λ a. result_and a behind) (sym e))
-
-  pub run_stops : (f : Fault) → i < n → Err f ≡ due_record shape limits len bs → Err f ≡ left
-  run_stops f h e = sym (run_at h ∙ ap (λ a. result_and a behind) (sym e))
-
-  pub run_all : n ≤ i → Ok tt ≡ left
-  run_all h = let e : n - i ≡ 0 = omega arith in sym (ap (λ m. due_run shape limits len m bs) e)
+      rw (p, q, t, run_at h, ← e)

@@ -11,7 +11,7 @@ use amounts::cost::{LabelForm, SectionForm};
 /// The body of an S record.
 #[derive(Clone, Copy)]
 pub struct SectionRecord {
-    // Kept: a number, the page's own byte, 0 or 1 or worse, which `keeps` judges after it is read.
+    // Kept: a number, since a page may show any, and one that is not allowed must be held to be refused.
     pub state: u8,
     pub from: u16,
     pub to: u16,
@@ -66,7 +66,7 @@ impl Record<{ SectionRecord::SIZE }> for SectionRecord {
 /// The body of an H record.
 #[derive(Clone, Copy)]
 pub struct HeaderRecord {
-    // Kept: a number, the page's own byte, of any kind, which `keeps` judges after it is read.
+    // Kept: a number, since a page may show any, and one that is not allowed must be held to be refused.
     pub kind: u8,
     pub stations: u16,
     pub sections: u16,
@@ -178,7 +178,7 @@ impl Record<{ EstimateRecord::SIZE }> for EstimateRecord {
 #[derive(Clone, Copy)]
 pub struct AnswerRecord {
     pub run: u32,
-    // Kept: a number, the page's own byte, 0 or 1 or worse, which `keeps` judges after it is read.
+    // Kept: a number, since a page may show any, and one that is not allowed must be held to be refused.
     pub outcome: u8,
     pub cost: LabelForm,
     pub steps: u16,

@@ -3,8 +3,11 @@ ghost use Rattle.std.specs.Prelude.{◌≡◌};
 ghost use Rattle.amounts.specs.Forms.{moves_fit};
 ghost use Rattle.records.specs.Values.{label_fits};
 
-use amounts::cost::LabelForm;
+use amounts::cost::{Cost, LabelForm};
+use amounts::kinds::Samples;
 use amounts::limits::SAMPLES;
+
+// Kept: `networks::blank` has this bound as a machine number; no crate below both speaks of stations.
 
 /// The most stations of a page.
 pub const MOST_STATIONS: u16 = 4096;
@@ -18,7 +21,7 @@ pub const MOST_STEPS: u16 = 4095;
 /// The cost kind that is read for, and how many stations and sections there are.
 #[derive(Clone, Copy)]
 pub struct Limits {
-    // Kept: a number, since it is held against the header's own byte, which may be of any kind.
+    // Kept: a number, since kinds of cost are open: each gives a byte of its own.
     pub kind: u8,
     pub stations: u16,
     pub sections: u16,
@@ -29,7 +32,7 @@ impl Limits {
     pub(crate) fn moves_fit(&self, moves: u32) -> bool
         ensures { result ≡ moves_fit self.now.kind moves }
     {
-        self.kind != 1 || moves == 0
+        self.kind != Samples::KIND || moves == 0
     }
 
     /// Whether the cost kind may have this amount as an estimate or a cost.

@@ -14,7 +14,7 @@ pub enum Kind {
 
 /// A number that names no kind.
 #[derive(Clone, Copy, Debug, PartialEq, Eq)]
-pub struct UnknownKind(pub u64);
+pub struct UnknownKind;
 
 impl TryFrom<u64> for Kind {
     type Error = UnknownKind;
@@ -25,7 +25,7 @@ impl TryFrom<u64> for Kind {
         match number {
             1 => Ok(Kind::Samples),
             2 => Ok(Kind::Moves),
-            _ => Err(UnknownKind(number)),
+            _ => Err(UnknownKind),
         }
     }
 }

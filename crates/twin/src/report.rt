@@ -10,7 +10,7 @@ use networks::section::Section;
 use std::alloc::{AllocError, Global};
 use twinline::twin_line::TwinLine;
 
-/// A line with the network's numbers.
+/// How many stations and sections there are, and which the launcher and the trap are.
 fn heading<C: Cost, N: Network<C>>(out: &mut String, net: &N) -> Result<(), AllocError>
     ensures { OnOk result (string_bytes out.new ≡ string_bytes out.old ++ heading_line (N.Network.meaning net.now)) }
 {
@@ -24,7 +24,7 @@ fn heading<C: Cost, N: Network<C>>(out: &mut String, net: &N) -> Result<(), Allo
     )
 }
 
-/// A line with a section.
+/// A section's number, ends and amount.
 fn section_line<C: Cost>(
     out: &mut String,
     number: usize,
@@ -48,7 +48,7 @@ fn report<C: Cost, N: Network<C>>(heap: Global, net: &N) -> Result<String, Alloc
 {
     let mut out = String::new(heap);
     heading::<C, N>(&mut out, net)?;
-    // Kept: a network is asked by number; an iterator over its sections would count the same numbers in a type of its own.
+    // Kept: a line needs the number beside its section; an iterator over sections would be zipped with the numbers again.
     for number in 0..net.sections() {
         let Some(section) = net.section(number) else {
             return Ok(out);

@@ -1,9 +1,8 @@
 -- Which sections of a twin line go across at a station.
 use denote.Enum.Bare.{sameb}
-use Rattle.std.proofs.Common.{◌≡◌, ℕ, ◌+◌, ◌-◌, ◌*◌, ◌/◌, ◌%◌, ◌<◌, ◌≤◌, Bool, true, false, cond, Some, None, Option, sym, ap, ◌∙◌, ⊎_elim, div-add-mod', le-div_iff_mul-le, arith}
-use native.Mathlib.Nat.{div-eq_of_eq-mul_left, mul-mod_left}
-use Rattle.std.proofs.lemmas.Bool.{le-ltb, eq-eqb, ne_eqb, eqb-true, eqb-false, cases_Bool}
-use Rattle.std.proofs.lemmas.Option.{none-some, same_Some}
+use Rattle.std.proofs.Common.{◌≡◌, ℕ, ◌+◌, ◌-◌, ◌*◌, ◌/◌, ◌%◌, ◌<◌, ◌≤◌, Bool, cond, None, Option, sym, ap, ◌∙◌, arith}
+use native.Mathlib.Nat.{mul-mod_left}
+use Rattle.std.proofs.lemmas.Option.{none-some}
 use Rattle.std.proofs.lemmas.Bool.Decides.{nat_tests}
 use Rattle.faults.specs.declared.Side.{Side}
 use Rattle.faults.specs.contracts.Side.{the_type}
@@ -24,48 +23,13 @@ module _ (t : Line) (r : LineRange t) (place : ℕ) where
     alone = λ m lo hi at' way. absurd (h (ap (λ p. p % t.spacing) (sym at') ∙ mul-mod_left ((m - 2 * along t) / 2) t.spacing));
   }
 
-  -- elsewhere it is numbered by the quotient
-  module _ (h : place % t.spacing ≡ 0) (l : place < t.count) where
-    abbrev k : ℕ
-    k = t.spacing
-
-    abbrev q : ℕ
-    q = place / t.spacing
-
-    back : q * k ≡ place
-    back = omega (arith, div-add-mod' place k)
-
-    few : q ≤ along t / k
-    few = let pos : 0 < k = omega arith in (le-div_iff_mul-le {k = k} {x = q} {y = along t} pos).1 (omega (arith, back))
-
-    quotient : (m : ℕ) → cross_place t m ≡ place → q ≡ (m - 2 * along t) / 2
-    quotient m e = let pos : 0 < k = omega arith in div-eq_of_eq-mul_left {n = k} {m = place} {k = (m - 2 * along t) / 2} pos (sym e)
-
-    pub cross_at_down : Crossing t place true (Some (2 * along t + 2 * q))
-    cross_at_down = record {
-      here = λ m e.
-          let x : m ≡ 2 * along t + 2 * q = sym (same_Some _ _ e) in
-          let j : (m - 2 * along t) / 2 ≡ q = omega arith in
-          (omega arith, omega (arith, few), ap (λ n. n * k) j ∙ back, eq-eqb _ _ (omega arith));
-      alone = λ m lo hi at' way. ap Some (omega (arith, quotient m at', eqb-true _ _ way));
-    }
-
-    pub cross_at_up : Crossing t place false (Some (2 * along t + 2 * q + 1))
-    cross_at_up = record {
-      here = λ m e.
-          let x : m ≡ 2 * along t + 2 * q + 1 = sym (same_Some _ _ e) in
-          let j : (m - 2 * along t) / 2 ≡ q = omega arith in
-          (omega arith, omega (arith, few), ap (λ n. n * k) j ∙ back, ne_eqb _ _ (λ z. omega arith));
-      alone = λ m lo hi at' way. ap Some (omega (arith, quotient m at', eqb-false _ _ way));
-    }
-
 -- what crosses at a place has its ends at the two stations there
 module _ (t : Line) (r : LineRange t) where
   from_across : (m : ℕ) → 2 * along t ≤ m → end_of t Forward m ≡ cond (cross_down t m) (cross_place t m) (t.count + cross_place t m)
-  from_across m h = rw (le-ltb m (along t) (omega arith), le-ltb m (2 * along t) h)
+  from_across m h = grind (arith, nat_tests)
 
   to_across : (m : ℕ) → 2 * along t ≤ m → end_of t Backward m ≡ cond (cross_down t m) (t.count + cross_place t m) (cross_place t m)
-  to_across m h = rw (le-ltb m (along t) (omega arith), le-ltb m (2 * along t) h)
+  to_across m h = grind (arith, nat_tests)
 
   on_line : (m : ℕ) → m < section_count t → cross_place t m ≤ along t
   on_line m h = place_within t r (m - 2 * along t) (omega arith)
@@ -73,40 +37,20 @@ module _ (t : Line) (r : LineRange t) where
   module _ (station : ℕ) (o : Option ℕ) where
     pub across_upper : (side : Side) → station < t.count → Crossing t station (same_side side Forward) o → Only (end_of t side) station (2 * along t) (section_count t) o
     across_upper Forward l x = record {
-      here = λ m e. let h = x.here m e in (h.0, h.1, from_across m h.0 ∙ ap (λ b. cond b (cross_place t m) (t.count + cross_place t m)) h.3 ∙ h.2);
-      alone = λ m lo hi v.
-          let c : (b : Bool) → cross_down t m ≡ b → cond b (cross_place t m) (t.count + cross_place t m) ≡ station = λ b e. ap (λ d. cond d (cross_place t m) (t.count + cross_place t m)) (sym e) ∙ sym (from_across m lo) ∙ v in
-          ⊎_elim (λ e. x.alone m lo hi (c true e) e) (λ e. absurd (omega (arith, c false e))) (cases_Bool (cross_down t m));
+      here = λ m e. let h = x.here m e in let f = from_across m h.0 in (h.0, h.1, grind (arith, nat_tests));
+      alone = λ m lo hi v. let f = from_across m lo in x.alone m lo hi (grind (arith, nat_tests)) (grind (arith, nat_tests));
     }
     across_upper Backward l x = record {
-      here = λ m e. let h = x.here m e in (h.0, h.1, to_across m h.0 ∙ ap (λ b. cond b (t.count + cross_place t m) (cross_place t m)) h.3 ∙ h.2);
-      alone = λ m lo hi v.
-          let c : (b : Bool) → cross_down t m ≡ b → cond b (t.count + cross_place t m) (cross_place t m) ≡ station = λ b e. ap (λ d. cond d (t.count + cross_place t m) (cross_place t m)) (sym e) ∙ sym (to_across m lo) ∙ v in
-          ⊎_elim (λ e. absurd (omega (arith, c true e))) (λ e. x.alone m lo hi (c false e) e) (cases_Bool (cross_down t m));
+      here = λ m e. let h = x.here m e in let f = to_across m h.0 in (h.0, h.1, grind (arith, nat_tests));
+      alone = λ m lo hi v. let f = to_across m lo in x.alone m lo hi (grind (arith, nat_tests)) (grind (arith, nat_tests));
     }
 
     pub across_lower : (side : Side) → t.count ≤ station → Crossing t (station - t.count) (same_side side Backward) o → Only (end_of t side) station (2 * along t) (section_count t) o
     across_lower Forward l x = record {
-      here = λ m e. let h = x.here m e in (h.0, h.1, from_across m h.0 ∙ ap (λ b. cond b (cross_place t m) (t.count + cross_place t m)) h.3 ∙ omega (arith, h.2));
-      alone = λ m lo hi v.
-          let p = on_line m hi in
-          let c : (b : Bool) → cross_down t m ≡ b → cond b (cross_place t m) (t.count + cross_place t m) ≡ station = λ b e. ap (λ d. cond d (cross_place t m) (t.count + cross_place t m)) (sym e) ∙ sym (from_across m lo) ∙ v in
-          ⊎_elim (λ e. absurd (omega (arith, c true e))) (λ e. x.alone m lo hi (omega (arith, c false e)) e) (cases_Bool (cross_down t m));
+      here = λ m e. let h = x.here m e in let f = from_across m h.0 in (h.0, h.1, grind (arith, nat_tests));
+      alone = λ m lo hi v. let p = on_line m hi in let f = from_across m lo in x.alone m lo hi (grind (arith, nat_tests)) (grind (arith, nat_tests));
     }
     across_lower Backward l x = record {
-      here = λ m e. let h = x.here m e in (h.0, h.1, to_across m h.0 ∙ ap (λ b. cond b (t.count + cross_place t m) (cross_place t m)) h.3 ∙ omega (arith, h.2));
-      alone = λ m lo hi v.
-          let p = on_line m hi in
-          let c : (b : Bool) → cross_down t m ≡ b → cond b (t.count + cross_place t m) (cross_place t m) ≡ station = λ b e. ap (λ d. cond d (t.count + cross_place t m) (cross_place t m)) (sym e) ∙ sym (to_across m lo) ∙ v in
-          ⊎_elim (λ e. x.alone m lo hi (omega (arith, c true e)) e) (λ e. absurd (omega (arith, c false e))) (cases_Bool (cross_down t m));
+      here = λ m e. let h = x.here m e in let f = to_across m h.0 in (h.0, h.1, grind (arith, nat_tests));
+      alone = λ m lo hi v. let p = on_line m hi in let f = to_across m lo in x.alone m lo hi (grind (arith, nat_tests)) (grind (arith, nat_tests));
     }
-
-  pub across_none : (side : Side) (station : ℕ) → 2 * t.count ≤ station → Only (end_of t side) station (2 * along t) (section_count t) None
-  across_none Forward station l = record {
-    here = λ m e. absurd (none-some m e);
-    alone = λ m lo hi v. let p = on_line m hi in let f = from_across m lo in absurd (grind (arith, nat_tests));
-  }
-  across_none Backward station l = record {
-    here = λ m e. absurd (none-some m e);
-    alone = λ m lo hi v. let p = on_line m hi in let f = to_across m lo in absurd (grind (arith, nat_tests));
-  }

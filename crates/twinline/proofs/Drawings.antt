@@ -1,6 +1,8 @@
 -- What is worked out by number is what is drawn.
-use Rattle.std.proofs.Common.{◌≡◌, ℕ, ◌+◌, ◌-◌, ◌*◌, ◌/◌, ◌%◌, ◌<◌, ◌≤◌, ◌↔◌, Some, None, sym, refl, ap, ◌∙◌, subst, subst₂, ⊎_elim, le-div_iff_mul-le, arith}
-use Rattle.std.proofs.lemmas.Bool.{lt-ltb, le-ltb, eq-eqb, ne_eqb, cases_lt, cases_eq}
+use Rattle.std.proofs.Common.{◌≡◌, ℕ, ◌+◌, ◌-◌, ◌*◌, ◌/◌, ◌%◌, ◌<◌, ◌≤◌, ◌↔◌, Some, None, sym, refl, ap, ◌∙◌, subst, subst₂, ⊎_elim, arith}
+use Rattle.std.proofs.lemmas.Bool.{cases_lt, cases_eq}
+use Rattle.std.proofs.lemmas.Nat.{le-div}
+use Rattle.std.proofs.lemmas.Bool.Decides.{nat_tests}
 use Rattle.std.proofs.lemmas.Option.{none-some, same_Some}
 use Rattle.amounts.specs.Forms.{section_form}
 use Rattle.amounts.specs.declared.cost.SectionForm.{SectionForm}
@@ -15,16 +17,16 @@ module _ {S : Type 0} (made : SectionForm → S) (t : Line) (r : LineRange t) wh
 
   -- the numbered section in each stretch
   at_upper : (n : ℕ) → n < along t → numbered made t n ≡ open_section n (n + 1) (made (section_form 0 t.upper))
-  at_upper n h = rw (lt-ltb n (along t) h)
+  at_upper n h = grind (arith, nat_tests)
 
   at_lower : (n : ℕ) → along t ≤ n → n < 2 * along t → numbered made t n ≡ open_section (t.count + (n - along t)) (t.count + (n - along t) + 1) (made (section_form 0 t.lower))
-  at_lower n l h = rw (le-ltb n (along t) l, lt-ltb n (2 * along t) h)
+  at_lower n l h = grind (arith, nat_tests)
 
   at_down : (n : ℕ) → 2 * along t ≤ n → (n - 2 * along t) % 2 ≡ 0 → numbered made t n ≡ open_section (cross_place t n) (t.count + cross_place t n) crossed
-  at_down n l e = rw (le-ltb n (along t) (omega arith), le-ltb n (2 * along t) l, eq-eqb ((n - 2 * along t) % 2) 0 e)
+  at_down n l e = grind (arith, nat_tests)
 
   at_up : (n : ℕ) → 2 * along t ≤ n → ((n - 2 * along t) % 2 ≡ 0 → ⊥) → numbered made t n ≡ open_section (t.count + cross_place t n) (cross_place t n) crossed
-  at_up n l e = rw (le-ltb n (along t) (omega arith), le-ltb n (2 * along t) l, ne_eqb ((n - 2 * along t) % 2) 0 e)
+  at_up n l e = grind (arith, nat_tests)
 
   as_drawn : (n m : ℕ) (s r : Section S) → m ≡ n → r ≡ s → Drawn made t m r → Drawn made t n s
   as_drawn n m s r e f d = subst₂ (Drawn made t) e f d
@@ -46,7 +48,7 @@ module _ {S : Type 0} (made : SectionForm → S) (t : Line) (r : LineRange t) wh
 
   -- a multiple of the spacing on the line is one of the crossings
   few : (j : ℕ) → j * t.spacing < t.count → j ≤ along t / t.spacing
-  few j h = let pos : 0 < t.spacing = omega arith in (le-div_iff_mul-le {k = t.spacing} {x = j} {y = along t} pos).1 (omega arith)
+  few j h = le-div j (along t) t.spacing (omega arith) (omega arith)
 
   pub at_drawn : (n : ℕ) (s : Section S) → Drawn made t n s → (n < section_count t) × (numbered made t n ≡ s)
   at_drawn n s (upper_run i h) = (omega arith, at_upper i (omega arith))

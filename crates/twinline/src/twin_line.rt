@@ -1,7 +1,6 @@
 //! A line of two parallel pipes with crossovers at even spaces: worked out by formula, not stored.
-ghost use Rattle.std.specs.Prelude.{◌≡◌, ◌*◌, ◌<◌, ◌↔◌, [], ◌∷◌, Some};
+ghost use Rattle.std.specs.Prelude.{◌≡◌, ◌*◌, ◌<◌, ◌↔◌, [], Some};
 ghost use Rattle.std.specs.List.{slice_get};
-ghost use Rattle.faults.specs.Faults.{ranged_from};
 ghost use Rattle.amounts.specs.Forms.{section_form};
 ghost use Rattle.networks.specs.declared.section.Section.{Section as Part};
 ghost use Rattle.networks.specs.Nets.{InRange};
@@ -11,7 +10,7 @@ ghost use Rattle.twinline.specs.Touching.{Only, Crossing, or_none};
 
 use amounts::cost::{Cost, SectionForm};
 use amounts::sampling::{length_fits, rate_fits, samples_of};
-use faults::{Fault, Side, out_of_range};
+use faults::{Fault, Side, in_range};
 use networks::network::Network;
 use networks::section::Section;
 use std::marker::Model;
@@ -74,17 +73,6 @@ fn kth(first: Option<usize>, second: Option<usize>, k: usize) -> Option<usize>
     first.into_iter().chain(second).nth(k)
 }
 
-/// The fault of the numbered parameter, where it does not fit.
-fn check(parameter: usize, fits: bool) -> Result<(), Fault>
-    ensures { result ≡ ranged_from parameter (fits ∷ []) tt }
-{
-    if fits {
-        Ok(())
-    } else {
-        Err(out_of_range(parameter))
-    }
-}
-
 impl TwinLine {
     /// The twin line of a drawing, or the first parameter that breaks its range.
     pub fn new(drawing: Drawing) -> Result<TwinLine, Fault>
@@ -98,12 +86,12 @@ impl TwinLine {
             crossover,
             rate,
         } = drawing;
-        check(0, (1..=LONGEST_PIPE).contains(&count))?;
-        check(1, (1..=LONGEST_PIPE).contains(&spacing))?;
-        check(2, length_fits(upper))?;
-        check(3, length_fits(lower))?;
-        check(4, length_fits(crossover))?;
-        check(5, rate_fits(rate))?;
+        in_range(0, (1..=LONGEST_PIPE).contains(&count))?;
+        in_range(1, (1..=LONGEST_PIPE).contains(&spacing))?;
+        in_range(2, length_fits(upper))?;
+        in_range(3, length_fits(lower))?;
+        in_range(4, length_fits(crossover))?;
+        in_range(5, rate_fits(rate))?;
         Ok(TwinLine {
             count,
             spacing,
@@ -152,7 +140,7 @@ impl TwinLine {
         }
     }
 
-    /// Along and across.
+    /// How many sections there are, along and across.
     fn section_count(&self) -> usize
         ensures value { result ≡ section_count self.now }
         ensures range { LineRange self.now }

@@ -6,6 +6,9 @@ ghost use Rattle.writing.specs.Rows.{MadeOneByOne};
 
 use records::record::Record;
 
+// Kept: page and offset apart; a struct that holds both was tried, and got no proof of what the page holds when it is
+// let go.
+
 /// Puts a record's bytes over those of the page from an offset on, and answers where they end.
 pub(crate) fn put<R: Record<SIZE>, const SIZE: usize>(page: &mut [u8], at: usize, body: &R) -> usize
     requires { at + size_of R.Record.shape ≤ length page.old }

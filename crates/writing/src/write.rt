@@ -52,8 +52,9 @@ fn put_answer<C: Cost>(
     put_run(page, end, steps.len(), |k| step_row::<C>(steps, k))
 }
 
-// Kept: network, estimates and answer, as the caller of `write` gives them; a struct would be made there only to be
-// taken apart here, behind longer clauses.
+// Kept: network, estimates and answer, as the caller of `write` gives them; a struct of them would be made there only
+// to be taken apart here, and clauses would say `self.now.net.now` for `net.now`.
+// Kept: an answer by `meant_of`; a type parameter for its steps leaves no one model for it.
 
 /// Whether all can be written on a page of so many bytes; else the fault: other stations than the network's, too short
 /// a page, then an answer that a page cannot hold.

@@ -1,10 +1,9 @@
 use Rattle.std.proofs.Common.{◌≡◌, ◌*◌, true, drop, ap, ◌∙◌, ap₂, rules}
-use Rattle.std.proofs.lemmas.Result.{err_from_is_err_and}
 use Rattle.std.proofs.lemmas.Bool.{eq-eqb}
 use Rattle.records.specs.Due.{due_run}
 use Rattle.records.specs.Layout.{step_shape}
 use Rattle.contents.specs.Checks.{has_answer, due_end}
-use Rattle.contents.proofs.Checking.{answer_stops, answer_ends}
+use Rattle.contents.proofs.Checking.{answer_ends}
 use Rattle.pages.proofs.check.check_answer.Goals as goal
 
 pub returns : goal.returns

@@ -1,7 +1,6 @@
-use Rattle.std.proofs.Common.{◌+◌, ◌*◌, length, drop, sym, ap, ◌∙◌, arith}
-use Rattle.records.specs.Shapes.{size_of}
+use Rattle.std.proofs.Common.{◌+◌, ◌*◌, drop, sym, ap, ◌∙◌}
 use Rattle.records.proofs.Passing.{nth_run_past}
-use Rattle.contents.proofs.Places.{room, nth_there}
+use Rattle.contents.proofs.Places.{nth_there}
 use Rattle.pages.proofs.page_network.nth_record.Goals as goal
 
 pub returns-then-k-count : goal.returns-then-k-count

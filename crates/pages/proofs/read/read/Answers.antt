@@ -1,6 +1,6 @@
 use Rattle.std.proofs.Common.{is_ok, sym, refl, ap, ◌∙◌, arith}
 use Rattle.std.proofs.lemmas.Result.{err_from_is_err_and}
-use Rattle.contents.specs.Checks.{headed, header_of, check_page}
+use Rattle.contents.specs.Checks.{header_of, check_page}
 use Rattle.contents.proofs.Accepting.{headed_ok, headed_err, kind_is, test_from_each, bytes_from_test}
 use Rattle.contents.specs.Encoding.{PageLaws}
 use Rattle.contents.proofs.Alone.{again_of}

@@ -1,6 +1,5 @@
-use Rattle.std.proofs.Common.{◌∙◌, arith}
-use Rattle.networks.proofs.Numbers.{past_nth}
-use Rattle.twin.proofs.Lines.{lines_none, lines_more, lines_all}
+use Rattle.std.proofs.Common.{◌∙◌}
+use Rattle.twin.proofs.Lines.{lines_more}
 use Rattle.twin.proofs.report.report.Goals as goal
 
 pub loop-number-preserved : goal.loop-number-preserved

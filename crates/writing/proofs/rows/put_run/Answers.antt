@@ -1,6 +1,5 @@
 use Rattle.std.proofs.Common.{sym, ◌∙◌, arith}
 use Rattle.std.proofs.Math.Nat.{mul-add}
-use Rattle.std.proofs.lemmas.List.{take_all}
 use Rattle.records.specs.Shapes.{size_of}
 use Rattle.contents.proofs.Overlays.{run_step}
 use Rattle.writing.proofs.rows.put_run.Goals as goal

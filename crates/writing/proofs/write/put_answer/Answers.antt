@@ -1,4 +1,4 @@
-use Rattle.std.proofs.Common.{rules, ◌≡◌, map, Some, None, sym, ap, ◌∙◌, subst, arith}
+use Rattle.std.proofs.Common.{rules, ◌≡◌, map, Some, sym, ap, ◌∙◌, subst, arith}
 use Rattle.std.proofs.lemmas.List.{length-map}
 use Rattle.std.specs.Option.{option_map}
 use Rattle.records.specs.Bytes.{overlay}
@@ -7,7 +7,7 @@ use Rattle.records.specs.Layout.{answer_shape}
 use Rattle.contents.specs.Content.{meant_of}
 use Rattle.contents.specs.Encoding.{step_record}
 use Rattle.contents.specs.Writing.{answer_size, RunFits}
-use Rattle.contents.proofs.Wrote.{none_put, some_put}
+use Rattle.contents.proofs.Wrote.{some_put}
 use Rattle.writing.proofs.write.put_answer.Goals as goal
 
 pub returns : goal.returns

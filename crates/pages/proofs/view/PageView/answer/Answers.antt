@@ -1,7 +1,7 @@
 use Rattle.std.proofs.Common.{◌≡◌, Some, sym, ap, ◌∙◌}
 use Rattle.std.specs.Option.{option_map}
 use Rattle.contents.specs.Content.{filed_by}
-use Rattle.contents.proofs.Answers.{meaning, answer_some, answer_none, meaning_steps}
+use Rattle.contents.proofs.Answers.{meaning, answer_some, meaning_steps}
 use Rattle.pages.proofs.view.PageView.answer.Goals as goal
 
 pub returns : goal.returns

@@ -1,10 +1,10 @@
-use Rattle.std.proofs.Common.{◌≡◌, ◌+◌, ◌*◌, length, Some, sym, ap, ◌∙◌, arith, length-drop}
+use Rattle.std.proofs.Common.{◌≡◌, ◌+◌, ◌*◌, drop, refl, length, Some, sym, ap, ◌∙◌, arith, length-drop}
 use Rattle.records.specs.Layout.{step_shape}
 use Rattle.records.specs.Shapes.{decoded_run}
 use Rattle.contents.specs.Checks.{header_of, answer_bytes, step_bytes}
 use Rattle.contents.specs.Content.{step_in, step_from, net_of}
 use Rattle.contents.proofs.Accepting.{answer_place}
-use Rattle.contents.proofs.Answers.{record_in, steps_read, answer_told, answer_is, answer_some, answer_none}
+use Rattle.contents.proofs.Answers.{record_in, steps_read, answer_told, answer_is, answer_some}
 use Rattle.contents.proofs.Mapped.{mapped_some, mapped_none}
 use Rattle.pages.proofs.Views.{view_answered}
 use Rattle.pages.proofs.view.PageView.step.Goals as goal
@@ -19,7 +19,7 @@ nth_record-requires g c =
     let there = view_answered v (answer_told bs a told) in
     let steps = ap (λ x. x.steps) (answer_is bs a told) in
     let at = 10 + 12 * (header_of bs).sections + 21 * (header_of bs).stations in
-    omega (arith, there.answer.fits, there.steps.fits, steps, c.from.ensures, c.answer_at.ensures, length-drop 20 rest, ap length (answer_place bs), length-drop at bs)
+    omega (arith, there.answer.fits, there.steps.fits, steps, c.from.ensures, c.answer_at.ensures, length-drop 20 rest, ap length (answer_place bs (drop at bs) at refl refl), length-drop at bs)
 
 pub returns-in_err-body : goal.returns-in_err-body
 returns-in_err-body g c =

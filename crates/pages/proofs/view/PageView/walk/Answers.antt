@@ -1,8 +1,7 @@
-use Rattle.std.proofs.Common.{◌&&◌, sym, ap, ◌∙◌, ap₂, arith}
+use Rattle.std.proofs.Common.{◌&&◌, sym, ap, ◌∙◌, arith}
 use Rattle.std.proofs.lemmas.Bool.{eq-eqb, ne_eqb}
-use Rattle.networks.proofs.Numbers.{past_nth}
 use Rattle.contents.specs.Content.{steps_in, net_of, answer_of}
-use Rattle.contents.specs.Retracing.{walks, same}
+use Rattle.contents.specs.Retracing.{same}
 use Rattle.contents.proofs.Walking.{walk_more, walk_stops, walk_all}
 use Rattle.pages.proofs.view.PageView.walk.Goals as goal
 

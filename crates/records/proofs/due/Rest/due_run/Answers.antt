@@ -1,6 +1,5 @@
 use Rattle.std.proofs.Common.{drop, ap, ◌∙◌}
-use Rattle.std.proofs.lemmas.Result.{err_from_is_err_and}
-use Rattle.records.proofs.Runs.{run_more, run_stops, run_all}
+use Rattle.records.proofs.Runs.{run_more}
 use Rattle.records.proofs.due.Rest.due_run.Goals as goal
 
 pub loop-preserved : goal.loop-preserved

@@ -1,4 +1,4 @@
-use Rattle.twinline.proofs.Crossings.{across_upper, across_lower, across_none}
+use Rattle.twinline.proofs.Crossings.{across_upper, across_lower}
 use Rattle.twinline.proofs.twin_line.TwinLine.across.Goals as goal
 
 pub returns-then-station-self : goal.returns-then-station-self

@@ -1,4 +1,4 @@
-use Rattle.twinline.proofs.Crossings.{cross_none, cross_at_down, cross_at_up}
+use Rattle.twinline.proofs.Crossings.{cross_none}
 use Rattle.twinline.proofs.twin_line.TwinLine.crossing.Goals as goal
 
 pub returns-then-place-self-ne0 : goal.returns-then-place-self-ne0
