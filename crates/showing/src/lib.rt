@@ -2,5 +2,6 @@
 #![tactic(auto)]
 
 pub mod lines;
+pub mod run;
 pub mod show;
 mod texts;
