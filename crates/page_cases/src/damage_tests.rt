@@ -1,5 +1,5 @@
 //! The page with an answer, cut at every length, and with one byte changed at every place.
-use crate::pages::ANSWERED;
+use crate::worked::ANSWERED;
 use amounts::kinds::Samples;
 use faults::{Layer, Refusal};
 use pages::read::{blank, read};

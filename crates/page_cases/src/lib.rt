@@ -4,6 +4,6 @@
 #[cfg(test)]
 mod damage_tests;
 #[cfg(test)]
-mod pages;
-#[cfg(test)]
 mod round_trip_tests;
+#[cfg(test)]
+mod worked;

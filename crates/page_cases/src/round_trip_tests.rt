@@ -1,5 +1,5 @@
 //! Pages read, retraced, and written again from what they mean.
-use crate::pages::{ANSWERED, MOVES_ANSWERED, MOVES_PLAIN, PLAIN, UNREACHED};
+use crate::worked::{ANSWERED, MOVES_ANSWERED, MOVES_PLAIN, PLAIN, UNREACHED};
 use amounts::cost::Cost;
 use amounts::kinds::{Moves, Samples};
 use contents::answer::{Filed, Step, WholeAnswer};
