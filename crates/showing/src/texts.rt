@@ -1,7 +1,6 @@
 //! The lines of a page's parts.
 ghost use Rattle.std.specs.Prelude.{◌≡◌, IfOk, string_bytes};
 ghost use Rattle.showing.specs.Shown.{state_word, outcome_word, header_line, section_line, station_line, step_line, answer_line};
-ghost use Rattle.contents.specs.Encoding.{form_of};
 
 use amounts::cost::{Cost, LabelForm, SectionForm};
 use contents::answer::{Filed, Outcome, Step};
@@ -23,13 +22,6 @@ pub(crate) fn outcome_word(outcome: Outcome) -> &'static str
         Outcome::Found => "route",
         Outcome::NoRoute => "none",
     }
-}
-
-/// An amount's form; zeros where it has none.
-fn form_of<C: Cost>(amount: C::Label) -> LabelForm
-    ensures { result ≡ form_of C.Cost amount }
-{
-    C::shown(amount).unwrap_or_default()
 }
 
 pub(crate) fn header_line<C: Cost, N: Network<C>>(
@@ -77,8 +69,8 @@ pub(crate) fn station_line<C: Cost>(
 ) -> Result<String, AllocError>
     ensures { IfOk result (λ s. string_bytes s ≡ station_line C.Cost number pair) }
 {
-    let LabelForm { moves, samples } = form_of::<C>(pair.forward);
-    let back = form_of::<C>(pair.backward);
+    let LabelForm { moves, samples } = C::shown(pair.forward).unwrap_or_default();
+    let back = C::shown(pair.backward).unwrap_or_default();
     let back_moves = back.moves;
     let back_samples = back.samples;
     format!(in heap;
@@ -96,7 +88,7 @@ pub(crate) fn step_line<C: Cost>(heap: Global, step: Step<C::Label>) -> Result<S
         to,
         so_far,
     } = step;
-    let LabelForm { moves, samples } = form_of::<C>(so_far);
+    let LabelForm { moves, samples } = C::shown(so_far).unwrap_or_default();
     format!(in heap; "step {section} {from} {to} {moves} {samples}\n")
 }
 
@@ -115,6 +107,6 @@ pub(crate) fn answer_line<C: Cost>(
         steps: _,
     } = answer;
     let outcome = outcome_word(outcome);
-    let LabelForm { moves, samples } = form_of::<C>(cost);
+    let LabelForm { moves, samples } = C::shown(cost).unwrap_or_default();
     format!(in heap; "answer run {run} {outcome} cost {moves} {samples} taken {taken}\n")
 }
