@@ -1,0 +1,5 @@
+pub mod Sheets
+pub mod Problems
+pub mod Keys
+pub mod Search
+pub mod Published
