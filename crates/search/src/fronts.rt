@@ -108,6 +108,13 @@ pub fn within<C: Cost>(x: Option<C::Label>, y: Option<C::Label>) -> bool
     C::at_most(a, b)
 }
 
+/// The smaller of two bounds.
+pub fn smaller<C: Cost>(x: Option<C::Label>, y: Option<C::Label>) -> Option<C::Label>
+    ensures { result ≡ smaller C.Cost x y }
+{
+    if within::<C>(x, y) { x } else { y }
+}
+
 /// The sum of the least keys; absent where a side has no open station.
 pub fn key_sum<C: Cost>(
     forward: Option<Front<C::Label>>,

@@ -4,4 +4,5 @@
 pub mod amounts_of;
 pub mod dry;
 pub mod fronts;
+pub mod running;
 pub mod sections;
