@@ -1,2 +1,4 @@
 pub mod Marked
 pub mod Invariant
+pub mod Having
+pub mod Putting
