@@ -1,2 +1,10 @@
 pub mod Marked
 pub mod Invariant
+pub mod Group
+pub mod Exact
+pub mod Having
+pub mod Walks
+pub mod Moving
+pub mod Putting
+pub mod Sides
+pub mod Ceilings
