@@ -8,3 +8,4 @@ pub mod Moving
 pub mod Putting
 pub mod Sides
 pub mod Ceilings
+pub mod Ranges

@@ -1,12 +1,17 @@
 -- A station's sections, gone through one by one.
-use Rattle.std.proofs.Common.{◌≡◌, ℕ, ◌+◌, ◌≤◌, Bool, true, false, cond, List, [], ◌∷◌, length, drop, is_some, Some, None, Option, option_and_then, refl, sym, ap, ◌∙◌, arith}
+use Rattle.std.proofs.Common.{◌≡◌, ℕ, ◌+◌, ◌^◌, ◌<◌, ◌≤◌, Bool, true, false, cond, List, [], ◌∷◌, length, drop, is_some, Some, None, Option, option_and_then, refl, sym, ap, ◌∙◌, arith, true≢false}
 use Rattle.std.proofs.lemmas.List.{drop_all}
 use Rattle.std.specs.List.{slice_get}
+use Rattle.std.proofs.lemmas.Bool.{lt-ltb}
+use Rattle.amounts.specs.Amount.{Laws, fits}
 use Rattle.amounts.specs.declared.cost.Cost as cost
 use Rattle.faults.specs.declared.Side.{Side}
+use Rattle.networks.specs.declared.section.Section.{Section}
 use Rattle.networks.specs.Nets.{Net, numbers, starts, starters}
 use Rattle.networks.proofs.Numbers.{drop_nth, past_nth}
-use Rattle.optimality.specs.Search.{Spread, along, spread}
+use Rattle.optimality.specs.Problems.{head}
+use Rattle.optimality.specs.Keys.{sum, fits_row, improves}
+use Rattle.optimality.specs.Search.{Spread, mark_at, along, spread}
 
 -- at most as many pass as there are
 pub few_numbers : {X : Type 0} (test : X → Bool) (n : ℕ) (xs : List X) → length (numbers test n xs) ≤ length xs
@@ -43,3 +48,33 @@ module _ {C L S : Type 0} (c : cost.Ghosts C L S) (net : Net S) (side : Side) (l
   -- and leaves the rest to do
   pub next_left : (ks : List ℕ) (i k : ℕ) (sp sq : Spread C L S) → Some k ≡ slice_get ks i → Some sq ≡ along c side label k (slice_get net.sections k) sp → spread c net side label (drop (i + 1) ks) sq ≡ spread c net side label (drop i ks) sp
   next_left ks i k sp sq e h = ap (option_and_then (spread c net side label (drop (i + 1) ks))) h ∙ sym (next ks i k sp e)
+
+-- A light label: no section leads to one that a row does not hold.
+module _ {C L S : Type 0} (c : cost.Ghosts C L S) (laws : Laws c.ops) (net : Net S) (side : Side) (label : L) (light : c.ops.size label + 2 ^ 32 ≤ 2 ^ 44) (small : (k : ℕ) (s : Section S) → slice_get net.sections k ≡ Some s → c.ops.size (c.worth s.amount) < 2 ^ 32) where
+  -- what is computed is the sum, or zero
+  light_sum : (a : L) → c.ops.size a < 2 ^ 32 → c.ops.size (sum c label a) < 2 ^ 44
+  light_sum a h = go (fits (c.ops.size label) (c.ops.size a))
+    where
+      go : (b : Bool) → c.ops.size (cond b (c.ops.plus label a) c.ops.zero) < 2 ^ 44
+      go true = omega (arith, laws.size_plus label a)
+      go false = omega (arith, laws.size_zero)
+
+  abbrev gives : Bool → Bool → Bool → Spread C L S → Spread C L S → Option (Spread C L S)
+  gives shut better fits new sp = cond shut (Some sp) (cond better (cond fits (Some new) None) (Some sp))
+
+  gives_some : (shut better fits : Bool) (new sp : Spread C L S) → fits ≡ true → is_some (gives shut better fits new sp) ≡ true
+  gives_some true better fits new sp h = refl
+  gives_some false false fits new sp h = refl
+  gives_some false true fits new sp h = ap (λ b. is_some (cond b (Some new) None)) h
+
+  light_along : (k : ℕ) (so : Option (Section S)) → slice_get net.sections k ≡ so → (sp : Spread C L S) → is_some (along c side label k so sp) ≡ true
+  light_along k None is sp = refl
+  light_along k (Some s) is sp = gives_some s.shut (improves c (sum c label (c.worth s.amount)) (mark_at c sp.rows side (head side s))) (fits_row c (sum c label (c.worth s.amount))) _ sp (lt-ltb _ _ (light_sum (c.worth s.amount) (small k s is)))
+
+  then_some : {X Y : Type 0} (f : X → Option Y) (o : Option X) → is_some o ≡ true → ((x : X) → is_some (f x) ≡ true) → is_some (option_and_then f o) ≡ true
+  then_some f None h all = absurd (true≢false (sym h))
+  then_some f (Some x) h all = all x
+
+  pub spread_light : (ks : List ℕ) (sp : Spread C L S) → is_some (spread c net side label ks sp) ≡ true
+  spread_light [] sp = refl
+  spread_light (k ∷ ks) sp = then_some (spread c net side label ks) (along c side label k (slice_get net.sections k) sp) (light_along k (slice_get net.sections k) refl sp) (spread_light ks)

@@ -1,5 +1,5 @@
 -- What the calls of a search answer, and what search and sheet then hold; and which search has its sheet to itself.
-use Rattle.std.specs.Prelude.{◌≡◌, ℕ, ◌+◌, Bool, true, cond, List, [], ◌∷◌, ◌++◌, length, take, drop, is_some, Some, None, Option, Ok, Err, Result, ◌==◌, nat_lt}
+use Rattle.std.specs.Prelude.{ℕ, ◌+◌, Bool, cond, List, [], ◌∷◌, ◌++◌, length, take, drop, Some, None, Option, Ok, Err, Result, ◌==◌, nat_lt}
 use Rattle.amounts.specs.declared.cost.Cost as cost
 use Rattle.networks.specs.declared.network.Network as network
 use Rattle.networks.specs.declared.estimates.Estimates as estimates
@@ -11,7 +11,6 @@ use Rattle.faults.specs.declared.Refusal.{Refusal}
 use Rattle.faults.specs.declared.Refusal.TheVariants.{TooFewRows, EstimateCount, Inconsistent, Ended, NotEnded, ForeignSheet}
 use Rattle.faults.specs.Faults.{fault_of}
 use Rattle.networks.specs.declared.section.Section.{Section}
-use Rattle.networks.specs.declared.estimates.Pair.{Pair}
 use Rattle.optimality.specs.declared.sheet.Row.{Row}
 use Rattle.optimality.specs.declared.sheet.Front.{Front}
 use Rattle.optimality.specs.declared.sheet.Ceiling.{Ceiling}
@@ -21,8 +20,6 @@ use Rattle.optimality.specs.Problems.{Problem}
 use Rattle.optimality.specs.Keys.{breaks}
 use Rattle.optimality.specs.Search.{front, floor, ended, taking, opened}
 use Rattle.search.specs.declared.running.Running.{Running}
-use Rattle.search.specs.declared.running.Found.{Found}
-use Rattle.search.specs.declared.running.NoRoute.{NoRoute}
 use Rattle.search.specs.declared.running.Finished.{Finished}
 use Rattle.search.specs.declared.running.Finished.TheVariants as finished
 use Rattle.search.specs.declared.running.Unopened.{Unopened}

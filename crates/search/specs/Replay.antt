@@ -1,11 +1,13 @@
 -- What a station's mark becomes while a taken station's sections are gone through.
-use Rattle.std.specs.Prelude.{ℕ, Bool, false, cond, not, ◌&&◌, ◌||◌, List, [], ◌∷◌, Some, None, Option, ◌==◌}
+use Rattle.std.specs.Prelude.{ℕ, Bool, false, cond, not, ◌&&◌, ◌||◌, List, [], ◌∷◌, take, Some, None, Option, ◌==◌}
 use Rattle.std.specs.List.{slice_get}
 use Rattle.amounts.specs.declared.cost.Cost as cost
 use Rattle.faults.specs.declared.Side.{Side}
 use Rattle.networks.specs.declared.section.Section.{Section}
-use Rattle.networks.specs.Nets.{Net}
+use Rattle.networks.specs.Nets.{Net, starters}
 use Rattle.optimality.specs.declared.sheet.Mark.{Mark}
+use Rattle.optimality.specs.declared.sheet.Row.{Row}
+use Rattle.optimality.specs.Search.{mark_at}
 use Rattle.optimality.specs.Problems.{head}
 use Rattle.optimality.specs.Keys.{opened_mark, sum, fits_row, improves}
 
@@ -23,6 +25,9 @@ module _ {C L S : Type 0} (c : cost.Ghosts C L S) (side : Side) (label : L) wher
   mark_after net v [] m = m
   mark_after net v (k ∷ ks) m = mark_after net v ks (mark_by v k (slice_get net.sections k) m)
 
-  -- a label that a row does not hold would be written where the section leads to this mark
-  abbrev pub too_large : Section S → Option (Mark L) → Bool
-  too_large s m = not s.shut && (not (fits_row c (candidate s)) && improves c (candidate s) m)
+  -- Whether the section, the k-th of station u, would get a label that a row does not hold; u itself is closed then.
+  abbrev pub large_at : Net S → ℕ → List (Row C L S) → ℕ → Option (Section S) → Bool
+  large_at net u rows k None = false
+  large_at net u rows k (Some s) =
+      cond (s.shut || fits_row c (candidate s)) false
+      (cond (head side s == u) false (improves c (candidate s) (mark_after net (head side s) (take k (starters side net u)) (mark_at c rows side (head side s)))))

@@ -3,7 +3,7 @@ ghost use Rattle.std.specs.Prelude.{◌≡◌, ◌<◌, ◌≤◌, length, take,
 ghost use Rattle.std.specs.List.{slice_get};
 ghost use Rattle.networks.specs.Nets.{InRange, starters};
 ghost use Rattle.optimality.specs.Search.{mark_at};
-ghost use Rattle.search.specs.Replay.{mark_by, mark_after, too_large};
+ghost use Rattle.search.specs.Replay.{mark_by, mark_after, large_at};
 
 use crate::amounts_of::{fits_row, improves, mark_at};
 use crate::sections::head;
@@ -59,4 +59,32 @@ fn mark_after<C: Cost, N: Network<C>>(
         mark = mark_by::<C, N>(net, side, label, to, number, mark);
     }
     mark
+}
+
+/// Whether section `number`, the k-th of the station that is taken, would get a label that a row does not hold.
+pub fn too_large<C: Cost, N: Network<C>>(
+    rows: &[Row<C>],
+    net: &N,
+    side: Side,
+    station: usize,
+    label: C::Label,
+    k: usize,
+    number: usize,
+) -> bool
+    ensures { result ≡ large_at C.Cost side label (N.Network.meaning net.now) station rows.now k (slice_get (N.Network.meaning net.now).sections number) }
+{
+    let Some(section) = net.section(number) else {
+        return false;
+    };
+    let candidate = C::sum(label, C::worth(section.amount));
+    if section.shut || fits_row::<C>(candidate) {
+        return false;
+    }
+    let to = head(side, &section);
+    if to == station {
+        return false;
+    }
+    let first = mark_at::<C>(rows, side, to);
+    let mark = mark_after::<C, N>(net, side, station, label, to, k, first);
+    improves::<C>(candidate, mark)
 }

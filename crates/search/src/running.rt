@@ -1,16 +1,20 @@
 //! A search: running, found, or without a route.
-ghost use Rattle.std.specs.Prelude.{◌≡◌, ◌<◌, ◌≤◌, length, Some, true, cond, None, is_some};
-ghost use Rattle.optimality.specs.Search.{front, floor, ended, taking};
+ghost use Rattle.std.specs.Prelude.{◌≡◌, ◌^◌, ◌<◌, ◌≤◌, length, Some, true, cond, None, is_some};
+ghost use Rattle.optimality.specs.Search.{front, floor, ended, spread, closing};
 ghost use Rattle.optimality.specs.Keys.{smaller};
-ghost use Rattle.networks.specs.Nets.{InRange};
+ghost use Rattle.networks.specs.Nets.{InRange, starters};
 ghost use Rattle.search.specs.Calls.{problem, standing};
 
+use crate::dry::too_large;
 use crate::fronts::{key_sum, least, smaller, twice, within};
 use amounts::cost::Cost;
 use faults::{Fault, Side};
 use networks::estimates::Estimates;
 use networks::network::Network;
 use optimality::sheet::{Ceiling, Front, Row};
+
+/// A label of at most this size leads to none that a row does not hold, along one section.
+const LIGHT: u64 = (1 << 44) - (1 << 32);
 
 /// A search that is under way. It is moved and never copied; its sheet is lent to each call.
 pub struct Running<C: Cost, N, E> {
@@ -105,5 +109,27 @@ impl<C: Cost, N: Network<C>, E: Estimates<C>> Running<C, N, E> {
             self.front(own, Side::Backward),
         );
         smaller::<C>(sum, twice::<C>(self.ceiling))
+    }
+
+    /// Whether rows hold every label that taking the front would write.
+    fn fits(&self, own: &[Row<C>], side: Side, front: &Front<C::Label>) -> bool
+        requires range { InRange C.Cost.parts (N.Network.meaning self.now.net) }
+        requires long { (N.Network.meaning self.now.net).stations ≤ length own.now }
+        requires inside { front.now.station < length own.now }
+        requires held { C.Cost.ops.size front.now.label < 2 ^ 44 }
+        ensures { result ≡ is_some (spread C.Cost (N.Network.meaning self.now.net) side front.now.label (starters side (N.Network.meaning self.now.net) front.now.station) (closing side front.now (standing self.now own.now))) }
+    {
+        if C::size(front.label) <= LIGHT {
+            return true;
+        }
+        for k in 0..self.net.sections() {
+            let Some(number) = self.net.touching(side, front.station, k) else {
+                break;
+            };
+            if too_large::<C, N>(own, &self.net, side, front.station, front.label, k, number) {
+                return false;
+            }
+        }
+        true
     }
 }
