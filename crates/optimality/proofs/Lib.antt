@@ -1,3 +1,4 @@
 pub mod Marked
 pub mod Invariant
 pub mod Group
+pub mod Exact
