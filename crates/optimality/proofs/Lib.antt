@@ -2,3 +2,5 @@ pub mod Marked
 pub mod Invariant
 pub mod Group
 pub mod Exact
+pub mod Having
+pub mod Walks
