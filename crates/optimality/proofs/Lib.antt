@@ -4,3 +4,4 @@ pub mod Group
 pub mod Exact
 pub mod Having
 pub mod Walks
+pub mod Fronts

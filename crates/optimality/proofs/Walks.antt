@@ -58,28 +58,7 @@ module _ {C L S : Type 0} (p : Problem C L S) where
   pub step_cost : (k : ℕ) (s : Section S) (ks : List ℕ) → Arc p k s → route_cost p (k ∷ ks) ≡ p.kind.ops.plus (p.kind.worth s.amount) (route_cost p ks)
   step_cost k s ks arc = ap (λ x. p.kind.ops.plus (worth_in p.kind.ops p.kind.worth x) (route_cost p ks)) arc.0
 
-  module _ (laws : Laws p.kind.ops) where
-    pub cost_append : (ks js : List ℕ) → route_cost p (ks ++ js) ≡ p.kind.ops.plus (route_cost p ks) (route_cost p js)
-    cost_append ks js = total_append laws _ ks js
-
-    pub cost_reverse : (ks : List ℕ) → route_cost p (reverse ks) ≡ route_cost p ks
-    cost_reverse ks = total_reverse laws _ ks
-
-    -- a section at the end of a walk
-    pub last_cost : (k : ℕ) (s : Section S) (ks : List ℕ) → Arc p k s → route_cost p (ks ++ k ∷ []) ≡ p.kind.ops.plus (route_cost p ks) (p.kind.worth s.amount)
-    last_cost k s ks arc = cost_append ks (k ∷ []) ∙ ap (p.kind.ops.plus (route_cost p ks)) (step_cost k s [] arc ∙ laws.unit _)
-
-    -- Chains -----------------------------------------------------------------------------------
-
-    -- a chain is a walk from the start, as long and as dear as it says
-    pub chain_walk : (side : Side) (f : Marks L) (n v : ℕ) (label : L) (arrival : Option ℕ) → Chain p side f n v label arrival → (ks : List ℕ) × Walk p side (start p.net side) ks v × (route_cost p ks ≡ label) × (length ks ≤ n)
-    chain_walk side f n v label None c = ([], sym c.0, sym c.1, omega arith)
-    chain_walk side f zero v label (Some k) c = absurd c
-    chain_walk side f (suc n) v label (Some k) c =
-        let (s, arc, here, has) = c in
-        let (m, e, (was, is, before)) = has_parts (f (tail side s)) _ has in
-        let (ks, walk, cost, long) = chain_walk side f n (tail side s) m.label m.arrival before in
-        (ks ++ k ∷ [], walk_append side (start p.net side) (tail side s) v ks (k ∷ []) walk (s, arc, refl, here), last_cost k s ks arc ∙ cc, omega (arith, length-append ks (k ∷ [])))
+  -- Chains -------------------------------------------------------------------------------------
 
   -- a chain in a sheet that keeps what is closed
   pub chain_kept : (side : Side) (f g : Marks L) → ((i : ℕ) → On (f i) (λ m. m.closed ≡ true → g i ≡ Some m)) → (n v : ℕ) (label : L) (arrival : Option ℕ) → Chain p side f n v label arrival → Chain p side g n v label arrival
@@ -99,6 +78,27 @@ module _ {C L S : Type 0} (p : Problem C L S) where
       let (s, arc, here, has) = c in
       let (m, e, (was, is, before)) = has_parts (f (tail side s)) _ has in
       (s, arc, here, has_from (f (tail side s)) _ m e (was, is, chain_more side f n (tail side s) m.label m.arrival before))
+
+  module _ (laws : Laws p.kind.ops) where
+    pub cost_append : (ks js : List ℕ) → route_cost p (ks ++ js) ≡ p.kind.ops.plus (route_cost p ks) (route_cost p js)
+    cost_append ks js = total_append laws _ ks js
+
+    pub cost_reverse : (ks : List ℕ) → route_cost p (reverse ks) ≡ route_cost p ks
+    cost_reverse ks = total_reverse laws _ ks
+
+    -- a section at the end of a walk
+    pub last_cost : (k : ℕ) (s : Section S) (ks : List ℕ) → Arc p k s → route_cost p (ks ++ k ∷ []) ≡ p.kind.ops.plus (route_cost p ks) (p.kind.worth s.amount)
+    last_cost k s ks arc = cost_append ks (k ∷ []) ∙ ap (p.kind.ops.plus (route_cost p ks)) (step_cost k s [] arc ∙ laws.unit _)
+
+    -- a chain is a walk from the start, as long and as dear as it says
+    pub chain_walk : (side : Side) (f : Marks L) (n v : ℕ) (label : L) (arrival : Option ℕ) → Chain p side f n v label arrival → (ks : List ℕ) × Walk p side (start p.net side) ks v × (route_cost p ks ≡ label) × (length ks ≤ n)
+    chain_walk side f n v label None c = ([], sym c.0, sym c.1, omega arith)
+    chain_walk side f zero v label (Some k) c = absurd c
+    chain_walk side f (suc n) v label (Some k) c =
+        let (s, arc, here, has) = c in
+        let (m, e, (was, is, before)) = has_parts (f (tail side s)) _ has in
+        let (ks, walk, cost, long) = chain_walk side f n (tail side s) m.label m.arrival before in
+        (ks ++ k ∷ [], walk_append side (start p.net side) (tail side s) v ks (k ∷ []) walk (s, arc, refl, here), last_cost k s ks arc ∙ cc, omega (arith, length-append ks (k ∷ [])))
 
 module _ {C L S : Type 0} (p : Problem C L S) (fair : Fair p) where
   pub walk_size : (side : Side) (u v : ℕ) (ks : List ℕ) → Walk p side u ks v → p.kind.ops.size (route_cost p ks) ≤ length ks * (2 ^ 32 - 1)
