@@ -169,3 +169,11 @@ module _ {C L S : Type 0} (p : Problem C L S) (fair : Fair p) (st : State C L S)
         its_key = next.its_key ∙ key_exact r.station _ next.marked;
         least = λ v. on_from (mark_at p.kind st.rows side v) _ (λ m is o. rw (key_exact v m is) at (next.least v m (marked_within long v m is) is o));
       }
+
+  -- where a station is open there is a front, of at most its key
+  pub front_there : length st.rows ≡ p.net.stations → (v : ℕ) (m : Mark L) → mark_at p.kind st.rows side v ≡ Some m → m.closed ≡ false → (r : Front L) × (front p st side ≡ Some r) × Le p.kind.ops r.key (key_at p side v m.label)
+  front_there long v m is o = go (front p st side) refl
+    where
+      go : (x : Option (Front L)) → front p st side ≡ x → (r : Front L) × (front p st side ≡ Some r) × Le p.kind.ops r.key (key_at p side v m.label)
+      go None e = absurd (true≢false (sym (on_at (mark_at p.kind st.rows side v) _ m is (front_none p fair.laws st side e v (marked_within long v m is))) ∙ o))
+      go (Some r) e = (r, e, on_at (mark_at p.kind st.rows side v) _ m is ((front_stands r long e).least v) o)

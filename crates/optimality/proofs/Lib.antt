@@ -5,3 +5,4 @@ pub mod Exact
 pub mod Having
 pub mod Walks
 pub mod Fronts
+pub mod Bounds
