@@ -1,9 +1,10 @@
 -- Bounds, where what is absent counts as above every amount.
 use Rattle.std.proofs.Common.{◌≡◌, ℕ, ◌^◌, ◌<◌, true, false, true≢false, List, length, Some, None, Option, sym, refl, ap, ◌∙◌, add_comm, arith}
 use Rattle.std.proofs.lemmas.Bool.{cond_both}
-use Rattle.amounts.specs.Amount.{Laws}
+use Rattle.amounts.specs.Amount.{Laws, Le}
 use Rattle.faults.specs.declared.Side.{Side}
 use Rattle.faults.specs.declared.Side.TheVariants.{Forward, Backward}
+use Rattle.optimality.specs.declared.sheet.Mark.{Mark}
 use Rattle.optimality.specs.declared.sheet.Row.{Row}
 use Rattle.optimality.specs.declared.sheet.Front.{Front}
 use Rattle.optimality.specs.declared.sheet.Ceiling.{Ceiling}
@@ -14,14 +15,18 @@ use Rattle.optimality.specs.Keys.{sum, within, smaller, key_sum, twice}
 use Rattle.optimality.specs.Search.{mark_at, front, least_sum}
 use Rattle.optimality.proofs.Marked.{OnMet, CeilLe}
 use Rattle.optimality.proofs.Having.{has_parts, on_at}
-use Rattle.optimality.proofs.Group.{le_of_not, le_half, le_double}
+use Rattle.optimality.proofs.Group.{le_of_not, le_add, le_half, le_double}
 use Rattle.optimality.proofs.Exact.{sum_is, key_small}
-use Rattle.optimality.proofs.Fronts.{seen_small, front_stands}
-use Rattle.optimality.proofs.Invariant.{Meeting}
+use Rattle.optimality.proofs.Fronts.{seen_small, front_stands, front_there}
+use Rattle.optimality.proofs.Invariant.{Meeting, key_at}
 
 -- x is at most y
 abbrev pub Below : {C L S : Type 0} → Problem C L S → Option L → Option L → Type 0
 Below p x y = within p.kind x y ≡ true
+
+-- a ceiling that two labels of a row add up to is small
+abbrev pub Small : {C L S : Type 0} → Problem C L S → Ceiling L → Type 0
+Small p ceiling = OnMet ceiling (λ a m. p.kind.ops.size a < 2 ^ 45)
 
 module _ {C L S : Type 0} (p : Problem C L S) (laws : Laws p.kind.ops) where
   -- Order --------------------------------------------------------------------------------------
@@ -81,11 +86,14 @@ module _ {C L S : Type 0} (p : Problem C L S) (fair : Fair p) where
       let j = front_small st (opposite side) b long h in
       sym (least_sum_by p fair.laws st side) ∙ rw (e, h) (ap Some (sum_is p.kind a.key b.key (omega arith)))
 
-  -- Ceilings -----------------------------------------------------------------------------------
+  -- and at most the sum of the keys of two open stations, one of each side
+  pub least_sum_below : (st : State C L S) (side : Side) → length st.rows ≡ p.net.stations → (u v : ℕ) (m w : Mark L) (x : L) → mark_at p.kind st.rows side u ≡ Some m → m.closed ≡ false → mark_at p.kind st.rows (opposite side) v ≡ Some w → w.closed ≡ false → Le p.kind.ops (p.kind.ops.plus (key_at p side u m.label) (key_at p (opposite side) v w.label)) x → Below p (least_sum p st) (Some x)
+  least_sum_below st side long u v m w x e o k q le =
+      let (a, is, low) = front_there p fair st side long u m e o in
+      let (b, at, less) = front_there p fair st (opposite side) long v w k q in
+      rw (least_sum_is st side a b long is at) (fair.laws.le_trans _ _ _ (le_add fair.laws _ _ _ _ low less) le)
 
-  -- a ceiling of small amount
-  abbrev pub Small : Ceiling L → Type 0
-  Small ceiling = OnMet ceiling (λ a m. p.kind.ops.size a < 2 ^ 45)
+  -- Ceilings -----------------------------------------------------------------------------------
 
   double_is : (a : L) → p.kind.ops.size a < 2 ^ 45 → sum p.kind a a ≡ p.kind.ops.plus a a
   double_is a h = sum_is p.kind a a (omega arith)
@@ -94,16 +102,16 @@ module _ {C L S : Type 0} (p : Problem C L S) (fair : Fair p) where
   pub twice_is : (a : L) (m : ℕ) → p.kind.ops.size a < 2 ^ 45 → twice p.kind (Met a m) ≡ Some (p.kind.ops.plus a a)
   twice_is a m h = ap Some (double_is a h)
 
-  pub ceil_below : (ceiling : Ceiling L) (x : L) → Small ceiling → CeilLe p.kind.ops ceiling x → Below p (twice p.kind ceiling) (Some (p.kind.ops.plus x x))
+  pub ceil_below : (ceiling : Ceiling L) (x : L) → Small p ceiling → CeilLe p.kind.ops ceiling x → Below p (twice p.kind ceiling) (Some (p.kind.ops.plus x x))
   ceil_below Absent x small h = absurd h
   ceil_below (Met a m) x small h = rw (double_is a small) (le_double fair.laws a x h)
 
-  pub below_ceil : (ceiling : Ceiling L) (x : L) → Small ceiling → Below p (twice p.kind ceiling) (Some (p.kind.ops.plus x x)) → CeilLe p.kind.ops ceiling x
+  pub below_ceil : (ceiling : Ceiling L) (x : L) → Small p ceiling → Below p (twice p.kind ceiling) (Some (p.kind.ops.plus x x)) → CeilLe p.kind.ops ceiling x
   below_ceil Absent x small h = absurd (true≢false (sym h))
   below_ceil (Met a m) x small h = le_half fair.laws a x (rw (double_is a small) at h)
 
   -- what a meeting is of two labels that are read is small
-  pub ceiling_small : (rows : List (Row C L S)) (side : Side) (ceiling : Ceiling L) → Meeting p (mark_at p.kind rows side) (mark_at p.kind rows (opposite side)) ceiling → Small ceiling
+  pub ceiling_small : (rows : List (Row C L S)) (side : Side) (ceiling : Ceiling L) → Meeting p (mark_at p.kind rows side) (mark_at p.kind rows (opposite side)) ceiling → Small p ceiling
   ceiling_small rows side Absent h = tt
   ceiling_small rows side (Met a m) h =
       let f = mark_at p.kind rows side m in

@@ -37,18 +37,24 @@ module _ {C L S : Type 0} (c : cost.Ghosts C L S) (laws : Laws c.ops) where
   pub seen_small : (rows : List (Row C L S)) (side : Side) (u : ℕ) → On (mark_at c rows side u) (λ m. c.ops.size m.label < 2 ^ 44)
   seen_small rows side u = seen_within (mark_in side (slice_get rows u))
 
+-- Which front comes first ------------------------------------------------------------------------
+
 -- what holds up to n, and of n
 up_to : (P : ℕ → Type 0) (n : ℕ) → ((v : ℕ) → v < n → P v) → P n → (v : ℕ) → v < suc n → P v
 up_to P n old new v lt = below_more P n old new v (omega arith)
 
-module _ {C L S : Type 0} (c : cost.Ghosts C L S) (laws : Laws c.ops) where
-  -- Which front comes first --------------------------------------------------------------------
-
+module _ {C L S : Type 0} (c : cost.Ghosts C L S) where
   -- of smaller key, or of the same key and at a station of no higher number
   abbrev Before : Front L → Front L → Type 0
   Before f g = Le c.ops f.key g.key × (f.key ≡ g.key → f.station ≤ g.station)
 
-  before_trans : (f g h : Front L) → Before f g → Before g h → Before f h
+  -- the first front of those at the stations below n, each as `at` has it
+  abbrev First : (ℕ → Option (Front L)) → ℕ → Option (Front L) → Type 0
+  First at n None = (v : ℕ) → v < n → at v ≡ None
+  First at n (Some f) = (f.station < n) × (at f.station ≡ Some f) × ((v : ℕ) → v < n → On (at v) (Before f))
+
+module _ {C L S : Type 0} (c : cost.Ghosts C L S) (laws : Laws c.ops) where
+  before_trans : (f g h : Front L) → Before c f g → Before c g h → Before c f h
   before_trans f g h a b =
       (laws.le_trans f.key g.key h.key a.0 b.0, later)
     where
@@ -57,33 +63,28 @@ module _ {C L S : Type 0} (c : cost.Ghosts C L S) (laws : Laws c.ops) where
           let same : f.key ≡ g.key = laws.le_anti f.key g.key a.0 (rw e b.0) in
           le_trans (a.1 same) (b.1 (sym same ∙ e))
 
-  -- the first front of those at the stations below n, each as `at` has it
-  abbrev First : (ℕ → Option (Front L)) → ℕ → Option (Front L) → Type 0
-  First at n None = (v : ℕ) → v < n → at v ≡ None
-  First at n (Some f) = (f.station < n) × (at f.station ≡ Some f) × ((v : ℕ) → v < n → On (at v) (Before f))
-
   module _ (at : ℕ → Option (Front L)) (place : (v : ℕ) → On (at v) (λ f. f.station ≡ v)) where
     -- the next station has none
-    first_past : (n : ℕ) (r : Option (Front L)) → at n ≡ None → First at n r → First at (suc n) r
+    first_past : (n : ℕ) (r : Option (Front L)) → at n ≡ None → First c at n r → First c at (suc n) r
     first_past n None e h = up_to (λ v. at v ≡ None) n h e
-    first_past n (Some f) e h = (omega arith, h.1, up_to (λ v. On (at v) (Before f)) n h.2 (rw e tt))
+    first_past n (Some f) e h = (omega arith, h.1, up_to (λ v. On (at v) (Before c f)) n h.2 (rw e tt))
 
     -- the next station's comes first
-    first_new : (n : ℕ) (f : Front L) → at n ≡ Some f → ((v : ℕ) → v < n → On (at v) (Before f)) → First at (suc n) (Some f)
+    first_new : (n : ℕ) (f : Front L) → at n ≡ Some f → ((v : ℕ) → v < n → On (at v) (Before c f)) → First c at (suc n) (Some f)
     first_new n f e h =
         let here : f.station ≡ n = on_at (at n) _ f e (place n) in
-        (omega arith, ap at here ∙ e, up_to (λ v. On (at v) (Before f)) n h (rw e (laws.le_refl f.key, λ k. omega arith)))
+        (omega arith, ap at here ∙ e, up_to (λ v. On (at v) (Before c f)) n h (rw e (laws.le_refl f.key, λ k. omega arith)))
 
     -- the next station's is b, and the first one so far a
-    first_both : (n : ℕ) (a b : Front L) → at n ≡ Some b → First at n (Some a) → (t : Bool) → c.ops.leb a.key b.key ≡ t → First at (suc n) (cond t (Some a) (Some b))
+    first_both : (n : ℕ) (a b : Front L) → at n ≡ Some b → First c at n (Some a) → (t : Bool) → c.ops.leb a.key b.key ≡ t → First c at (suc n) (cond t (Some a) (Some b))
     first_both n a b e h true k =
         let here : b.station ≡ n = on_at (at n) _ b e (place n) in
-        (omega arith, h.1, up_to (λ v. On (at v) (Before a)) n h.2 (rw e (k, λ q. omega arith)))
+        (omega arith, h.1, up_to (λ v. On (at v) (Before c a)) n h.2 (rw e (k, λ q. omega arith)))
     first_both n a b e h false k =
-        let sooner : Before b a = (le_of_not laws a.key b.key k, λ q. absurd (true≢false (sym (le_of_eq laws a.key b.key (sym q)) ∙ k))) in
+        let sooner : Before c b a = (le_of_not laws a.key b.key k, λ q. absurd (true≢false (sym (le_of_eq laws a.key b.key (sym q)) ∙ k))) in
         first_new n b e (λ v lt. on_from (at v) _ (λ g is. before_trans b a g sooner (on_at (at v) _ g is (h.2 v lt))))
 
-    first_step : (n : ℕ) (r x : Option (Front L)) → at n ≡ x → First at n r → First at (suc n) (nearer c r x)
+    first_step : (n : ℕ) (r x : Option (Front L)) → at n ≡ x → First c at n r → First c at (suc n) (nearer c r x)
     first_step n None None e h = first_past n None e h
     first_step n (Some a) None e h = first_past n (Some a) e h
     first_step n None (Some b) e h = first_new n b e (λ v lt. rw (h v lt) tt)
@@ -120,7 +121,7 @@ module _ {C L S : Type 0} (p : Problem C L S) (laws : Laws p.kind.ops) (st : Sta
   abbrev at : ℕ → Option (Front L)
   at v = front_of p.kind p.estimates side v (mark_at p.kind st.rows side v)
 
-  first_of_scan : (n : ℕ) → First p.kind laws at n (least p.kind p.estimates st.rows side n)
+  first_of_scan : (n : ℕ) → First p.kind at n (least p.kind p.estimates st.rows side n)
   first_of_scan zero = λ v lt. absurd (omega arith)
   first_of_scan (suc n) =
       first_step p.kind laws at (λ v. front_place p.kind p.estimates side v (mark_at p.kind st.rows side v)) n (least p.kind p.estimates st.rows side n) (at n) refl (first_of_scan n)
@@ -130,7 +131,7 @@ module _ {C L S : Type 0} (p : Problem C L S) (laws : Laws p.kind.ops) (st : Sta
   front_next f e =
       let (below, here, first) = rw e at (first_of_scan p.net.stations) in
       let opens = on_at (at f.station) _ f here (front_opens p.kind p.estimates side f.station (mark_at p.kind st.rows side f.station)) in
-      let before : (v : ℕ) (m : Mark L) → v < p.net.stations → mark_at p.kind st.rows side v ≡ Some m → m.closed ≡ false → Before p.kind laws f (front_at p.kind p.estimates side v m) =
+      let before : (v : ℕ) (m : Mark L) → v < p.net.stations → mark_at p.kind st.rows side v ≡ Some m → m.closed ≡ false → Before p.kind f (front_at p.kind p.estimates side v m) =
       λ v m lt is o. on_at (at v) _ _ (ap (front_of p.kind p.estimates side v) is ∙ front_open p.kind p.estimates side v m o) (first v lt) in
       record {
         within = below;

@@ -6,3 +6,4 @@ pub mod Having
 pub mod Walks
 pub mod Fronts
 pub mod Bounds
+pub mod Lower
