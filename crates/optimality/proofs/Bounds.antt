@@ -24,49 +24,57 @@ use Rattle.optimality.proofs.Invariant.{Meeting, key_at}
 abbrev pub Below : {C L S : Type 0} → Problem C L S → Option L → Option L → Type 0
 Below p x y = within p.kind x y ≡ true
 
--- a ceiling that two labels of a row add up to is small
+-- a ceiling no larger than two labels of a row add up to
 abbrev pub Small : {C L S : Type 0} → Problem C L S → Ceiling L → Type 0
 Small p ceiling = OnMet ceiling (λ a m. p.kind.ops.size a < 2 ^ 45)
 
 module _ {C L S : Type 0} (p : Problem C L S) (laws : Laws p.kind.ops) where
   -- Order --------------------------------------------------------------------------------------
 
+  -- each bound is at most itself
   pub below_refl : (x : Option L) → Below p x x
   below_refl None = refl
   below_refl (Some a) = laws.le_refl a
 
+  -- what is at most one that is at most a third
   pub below_trans : (x y z : Option L) → Below p x y → Below p y z → Below p x z
   below_trans x y None h k = refl
   below_trans x None (Some c) h k = absurd (true≢false (sym k))
   below_trans None (Some b) (Some c) h k = absurd (true≢false (sym h))
   below_trans (Some a) (Some b) (Some c) h k = laws.le_trans a b c h k
 
+  -- where x is not at most y, y is at most x
   below_other : (x y : Option L) → within p.kind x y ≡ false → Below p y x
   below_other x None e = absurd (true≢false e)
   below_other None (Some b) e = refl
   below_other (Some a) (Some b) e = le_of_not laws a b e
 
+  -- the smaller of two is at most the first
   pub smaller_left : (x y : Option L) → Below p (smaller p.kind x y) x
   smaller_left x y = cond_both (within p.kind x y) x y (λ z. Below p z x) (λ e. below_refl x) (below_other x y)
 
+  -- and at most the second
   pub smaller_right : (x y : Option L) → Below p (smaller p.kind x y) y
   smaller_right x y = cond_both (within p.kind x y) x y (λ z. Below p z y) (λ e. e) (λ e. below_refl y)
 
+  -- what is at most both is at most the smaller
   pub smaller_most : (z x y : Option L) → Below p z x → Below p z y → Below p z (smaller p.kind x y)
   smaller_most z x y h k = cond_both (within p.kind x y) x y (Below p z) (λ e. h) (λ e. k)
 
   -- The two least keys -------------------------------------------------------------------------
 
+  -- a computed sum does not depend on the order
   sum_comm : (a b : L) → sum p.kind a b ≡ sum p.kind b a
   sum_comm a b = rw (laws.comm a b, add_comm (p.kind.ops.size a) (p.kind.ops.size b))
 
+  -- nor does the sum of two fronts' keys
   key_sum_comm : (x y : Option (Front L)) → key_sum p.kind x y ≡ key_sum p.kind y x
   key_sum_comm None None = refl
   key_sum_comm None (Some b) = refl
   key_sum_comm (Some a) None = refl
   key_sum_comm (Some a) (Some b) = ap Some (sum_comm a.key b.key)
 
-  -- whichever side comes first
+  -- the sum of the two least keys, whichever side comes first
   pub least_sum_by : (st : State C L S) (side : Side) → key_sum p.kind (front p st side) (front p st (opposite side)) ≡ least_sum p st
   least_sum_by st Forward = refl
   least_sum_by st Backward = key_sum_comm (front p st Backward) (front p st Forward)
@@ -95,22 +103,25 @@ module _ {C L S : Type 0} (p : Problem C L S) (fair : Fair p) where
 
   -- Ceilings -----------------------------------------------------------------------------------
 
+  -- twice a small amount is exact
   double_is : (a : L) → p.kind.ops.size a < 2 ^ 45 → sum p.kind a a ≡ p.kind.ops.plus a a
   double_is a h = sum_is p.kind a a (omega arith)
 
-  -- twice a small ceiling is exact
+  -- and so is twice a small ceiling
   pub twice_is : (a : L) (m : ℕ) → p.kind.ops.size a < 2 ^ 45 → twice p.kind (Met a m) ≡ Some (p.kind.ops.plus a a)
   twice_is a m h = ap Some (double_is a h)
 
+  -- a ceiling of at most x is, doubled, at most twice x
   pub ceil_below : (ceiling : Ceiling L) (x : L) → Small p ceiling → CeilLe p.kind.ops ceiling x → Below p (twice p.kind ceiling) (Some (p.kind.ops.plus x x))
   ceil_below Absent x small h = absurd h
   ceil_below (Met a m) x small h = rw (double_is a small) (le_double fair.laws a x h)
 
+  -- and the other way
   pub below_ceil : (ceiling : Ceiling L) (x : L) → Small p ceiling → Below p (twice p.kind ceiling) (Some (p.kind.ops.plus x x)) → CeilLe p.kind.ops ceiling x
   below_ceil Absent x small h = absurd (true≢false (sym h))
   below_ceil (Met a m) x small h = le_half fair.laws a x (rw (double_is a small) at h)
 
-  -- what a meeting is of two labels that are read is small
+  -- a ceiling that is the sum of two labels that are read is small
   pub ceiling_small : (rows : List (Row C L S)) (side : Side) (ceiling : Ceiling L) → Meeting p (mark_at p.kind rows side) (mark_at p.kind rows (opposite side)) ceiling → Small p ceiling
   ceiling_small rows side Absent h = tt
   ceiling_small rows side (Met a m) h =

@@ -14,9 +14,11 @@ use Rattle.optimality.proofs.Group.{minus_plus, opposite_sum, drop_le, key_rises
 use Rattle.optimality.proofs.Invariant.{drop, key_at}
 
 module _ {C L S : Type 0} (c : cost.Ghosts C L S) where
+  -- a sum is exact while the sizes fit
   pub sum_is : (a b : L) → c.ops.size a + c.ops.size b ≤ 2 ^ 60 → sum c a b ≡ c.ops.plus a b
   sum_is a b h = rw (le-leb _ _ h)
 
+  -- and so is a difference
   pub difference_is : (a b : L) → c.ops.size a + c.ops.size b ≤ 2 ^ 60 → difference c a b ≡ c.ops.minus a b
   difference_is a b h = rw (le-leb _ _ h)
 
@@ -31,6 +33,7 @@ module _ {C L S : Type 0} (p : Problem C L S) (fair : Fair p) where
       let all = fair.laws.size_plus (p.kind.ops.plus label label) (drop p side u) in
       omega (arith, fair.small side u, fair.small (opposite side) u)
 
+  -- and what is computed is the key itself
   pub key_is : (side : Side) (u : ℕ) (label : L) → p.kind.ops.size label < 2 ^ 44 → key p.kind p.estimates side u label ≡ key_at p side u label
   key_is side u label h =
       let o = p.kind.ops in
@@ -53,6 +56,7 @@ module _ {C L S : Type 0} (p : Problem C L S) (fair : Fair p) where
 
   -- Keys ---------------------------------------------------------------------------------------
 
+  -- at one station the two drops cancel
   pub drops_cancel : (side : Side) (u : ℕ) → p.kind.ops.plus (drop p side u) (drop p (opposite side) u) ≡ p.kind.ops.zero
   drops_cancel Forward u = opposite_sum fair.laws _ _
   drops_cancel Backward u = opposite_sum fair.laws _ _

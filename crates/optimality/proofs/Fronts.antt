@@ -25,10 +25,12 @@ use Rattle.optimality.proofs.Invariant.{Next, key_at}
 module _ {C L S : Type 0} (c : cost.Ghosts C L S) (laws : Laws c.ops) where
   -- What is read -------------------------------------------------------------------------------
 
+  -- a mark that is read has a small label
   seen_size : (m : Mark L) → c.ops.size (seen c m).label < 2 ^ 44
   seen_size m =
       cond_both (fits_row c m.label) m.label c.ops.zero (λ x. c.ops.size x < 2 ^ 44) (λ e. ltb-true _ _ e) (λ e. omega (arith, laws.size_zero))
 
+  -- and so where there may be none
   seen_within : (x : Option (Mark L)) → On (option_map (seen c) x) (λ m. c.ops.size m.label < 2 ^ 44)
   seen_within None = tt
   seen_within (Some m) = seen_size m
@@ -54,6 +56,7 @@ module _ {C L S : Type 0} (c : cost.Ghosts C L S) where
   First at n (Some f) = (f.station < n) × (at f.station ≡ Some f) × ((v : ℕ) → v < n → On (at v) (Before f))
 
 module _ {C L S : Type 0} (c : cost.Ghosts C L S) (laws : Laws c.ops) where
+  -- what comes before the one before
   before_trans : (f g h : Front L) → Before c f g → Before c g h → Before c f h
   before_trans f g h a b =
       (laws.le_trans f.key g.key h.key a.0 b.0, later)
@@ -84,6 +87,7 @@ module _ {C L S : Type 0} (c : cost.Ghosts C L S) (laws : Laws c.ops) where
         let sooner : Before c b a = (le_of_not laws a.key b.key k, λ q. absurd (true≢false (sym (le_of_eq laws a.key b.key (sym q)) ∙ k))) in
         first_new n b e (λ v lt. on_from (at v) _ (λ g is. before_trans b a g sooner (on_at (at v) _ g is (h.2 v lt))))
 
+    -- the first front so far, and the next station's
     first_step : (n : ℕ) (r x : Option (Front L)) → at n ≡ x → First c at n r → First c at (suc n) (nearer c r x)
     first_step n None None e h = first_past n None e h
     first_step n (Some a) None e h = first_past n (Some a) e h
@@ -97,9 +101,11 @@ module _ {C L S : Type 0} (c : cost.Ghosts C L S) (estimates : List (Pair L)) (s
   abbrev front_at : ℕ → Mark L → Front L
   front_at u m = record { station = u; key = key c estimates side u m.label; label = m.label; arrival = m.arrival }
 
+  -- an open mark has a front
   front_open : (u : ℕ) (m : Mark L) → m.closed ≡ false → front_of c estimates side u (Some m) ≡ Some (front_at u m)
   front_open u m e = rw e
 
+  -- a front is of its own station
   front_place : (u : ℕ) (x : Option (Mark L)) → On (front_of c estimates side u x) (λ f. f.station ≡ u)
   front_place u None = tt
   front_place u (Some m) = cond_both m.closed None (Some (front_at u m)) (λ r. On r (λ f. f.station ≡ u)) (λ e. tt) (λ e. refl)
@@ -121,6 +127,7 @@ module _ {C L S : Type 0} (p : Problem C L S) (laws : Laws p.kind.ops) (st : Sta
   abbrev at : ℕ → Option (Front L)
   at v = front_of p.kind p.estimates side v (mark_at p.kind st.rows side v)
 
+  -- the scan finds the first front
   first_of_scan : (n : ℕ) → First p.kind at n (least p.kind p.estimates st.rows side n)
   first_of_scan zero = λ v lt. absurd (omega arith)
   first_of_scan (suc n) =
@@ -148,6 +155,7 @@ module _ {C L S : Type 0} (p : Problem C L S) (laws : Laws p.kind.ops) (st : Sta
       front_closed p.kind p.estimates side v (mark_at p.kind st.rows side v) (none v lt)
 
 module _ {C L S : Type 0} (p : Problem C L S) (fair : Fair p) (st : State C L S) (side : Side) where
+  -- where there is no row there is no mark
   no_row : (x : Option (Row C L S)) → x ≡ None → option_map (seen p.kind) (mark_in side x) ≡ None
   no_row x e = rw e
 

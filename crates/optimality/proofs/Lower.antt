@@ -115,6 +115,7 @@ module _ {C L S : Type 0} (p : Problem C L S) (fair : Fair p) (con : Consistent 
   abbrev twofold : List ℕ → Option L
   twofold ks = Some (p.kind.ops.plus (route_cost p ks) (route_cost p ks))
 
+  -- a walk of the sheet's own side, from its start
   cut_from : (side : Side) (v : ℕ) (ks : List ℕ) → Walk p side (start p.net side) ks v → Cut p side (marks side) (route_cost p ks) v ⊎ Reached p (marks side) (route_cost p ks) v
   cut_from side v ks a = start_cut p fair side (marks side) (n side) (stands.sides side) v ks a
 
