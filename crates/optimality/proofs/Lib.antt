@@ -9,3 +9,6 @@ pub mod Putting
 pub mod Sides
 pub mod Ceilings
 pub mod Ranges
+pub mod Fronts
+pub mod Bounds
+pub mod Lower

@@ -17,10 +17,12 @@ use Rattle.optimality.proofs.Invariant.{Marks, Walk, Chain}
 -- Costs ---------------------------------------------------------------------------------------
 
 module _ {L X : Type 0} {o : Ops L} (l : Laws o) (worth : X → L) where
+  -- the total of two lists
   total_append : (xs ys : List X) → total o worth (xs ++ ys) ≡ o.plus (total o worth xs) (total o worth ys)
   total_append [] ys = sym (unit_left l (total o worth ys))
   total_append (x ∷ xs) ys = ap (o.plus (worth x)) (total_append xs ys) ∙ sym (l.assoc _ _ _)
 
+  -- a total does not depend on the direction
   total_reverse : (xs : List X) → total o worth (reverse xs) ≡ total o worth xs
   total_reverse [] = refl
   total_reverse (x ∷ xs) =
@@ -29,6 +31,7 @@ module _ {L X : Type 0} {o : Ops L} (l : Laws o) (worth : X → L) where
 module _ {C L S : Type 0} (p : Problem C L S) where
   -- Walks --------------------------------------------------------------------------------------
 
+  -- a walk, and on
   pub walk_append : (side : Side) (u v w : ℕ) (ks js : List ℕ) → Walk p side u ks v → Walk p side v js w → Walk p side u (ks ++ js) w
   walk_append side u v w [] js a b = rw a b
   walk_append side u v w (k ∷ ks) js a b = let (s, arc, here, rest) = a in (s, arc, here, walk_append side (head side s) v w ks js rest b)
@@ -46,10 +49,12 @@ module _ {C L S : Type 0} (p : Problem C L S) where
       rw (reverse-append (k ∷ []) ks)
       (walk_append (opposite side) v (head side s) u (reverse ks) (k ∷ []) (walk_turned side (head side s) v ks rest) (s, arc, refl, back side s ∙ here))
 
+  -- sections that join are a forward walk
   pub joins_walk : (u v : ℕ) (ks : List ℕ) → Joins p.net u ks v → Walk p Forward u ks v
   joins_walk u v [] a = a
   joins_walk u v (k ∷ ks) a = let (s, there, shut, here, rest) = a in (s, (there, shut), here, joins_walk s.to v ks rest)
 
+  -- and the other way
   pub walk_joins : (u v : ℕ) (ks : List ℕ) → Walk p Forward u ks v → Joins p.net u ks v
   walk_joins u v [] a = a
   walk_joins u v (k ∷ ks) a = let (s, arc, here, rest) = a in (s, arc.0, arc.1, here, walk_joins s.to v ks rest)
@@ -80,9 +85,11 @@ module _ {C L S : Type 0} (p : Problem C L S) where
       (s, arc, here, has_from (f (tail side s)) _ m e (was, is, chain_more side f n (tail side s) m.label m.arrival before))
 
   module _ (laws : Laws p.kind.ops) where
+    -- what two walks cost, one after the other
     pub cost_append : (ks js : List ℕ) → route_cost p (ks ++ js) ≡ p.kind.ops.plus (route_cost p ks) (route_cost p js)
     cost_append ks js = total_append laws _ ks js
 
+    -- a walk costs the same the other way
     pub cost_reverse : (ks : List ℕ) → route_cost p (reverse ks) ≡ route_cost p ks
     cost_reverse ks = total_reverse laws _ ks
 
@@ -101,6 +108,7 @@ module _ {C L S : Type 0} (p : Problem C L S) where
         (ks ++ k ∷ [], walk_append side (start p.net side) (tail side s) v ks (k ∷ []) walk (s, arc, refl, here), last_cost k s ks arc ∙ cc, omega (arith, length-append ks (k ∷ [])))
 
 module _ {C L S : Type 0} (p : Problem C L S) (fair : Fair p) where
+  -- the size of what a walk costs
   pub walk_size : (side : Side) (u v : ℕ) (ks : List ℕ) → Walk p side u ks v → p.kind.ops.size (route_cost p ks) ≤ length ks * (2 ^ 32 - 1)
   walk_size side u v [] a = omega (arith, fair.laws.size_zero)
   walk_size side u v (k ∷ ks) a =
