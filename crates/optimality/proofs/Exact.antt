@@ -14,17 +14,11 @@ use Rattle.optimality.proofs.Group.{minus_plus, opposite_sum, drop_le, key_rises
 use Rattle.optimality.proofs.Invariant.{drop, key_at}
 
 module _ {C L S : Type 0} (c : cost.Ghosts C L S) where
-<<<<<<< HEAD
-  pub sum_is : (a b : L) → c.ops.size a + c.ops.size b ≤ 2 ^ 60 → sum c a b ≡ c.ops.plus a b
-  sum_is a b h = rw (le-leb _ _ h)
-
-=======
   -- a sum is exact while the sizes fit
   pub sum_is : (a b : L) → c.ops.size a + c.ops.size b ≤ 2 ^ 60 → sum c a b ≡ c.ops.plus a b
   sum_is a b h = rw (le-leb _ _ h)
 
   -- and so is a difference
->>>>>>> 6b49c8230757ebf838d9944df2225807a782a698
   pub difference_is : (a b : L) → c.ops.size a + c.ops.size b ≤ 2 ^ 60 → difference c a b ≡ c.ops.minus a b
   difference_is a b h = rw (le-leb _ _ h)
 
@@ -39,10 +33,7 @@ module _ {C L S : Type 0} (p : Problem C L S) (fair : Fair p) where
       let all = fair.laws.size_plus (p.kind.ops.plus label label) (drop p side u) in
       omega (arith, fair.small side u, fair.small (opposite side) u)
 
-<<<<<<< HEAD
-=======
   -- and what is computed is the key itself
->>>>>>> 6b49c8230757ebf838d9944df2225807a782a698
   pub key_is : (side : Side) (u : ℕ) (label : L) → p.kind.ops.size label < 2 ^ 44 → key p.kind p.estimates side u label ≡ key_at p side u label
   key_is side u label h =
       let o = p.kind.ops in
@@ -65,10 +56,7 @@ module _ {C L S : Type 0} (p : Problem C L S) (fair : Fair p) where
 
   -- Keys ---------------------------------------------------------------------------------------
 
-<<<<<<< HEAD
-=======
   -- at one station the two drops cancel
->>>>>>> 6b49c8230757ebf838d9944df2225807a782a698
   pub drops_cancel : (side : Side) (u : ℕ) → p.kind.ops.plus (drop p side u) (drop p (opposite side) u) ≡ p.kind.ops.zero
   drops_cancel Forward u = opposite_sum fair.laws _ _
   drops_cancel Backward u = opposite_sum fair.laws _ _

@@ -9,14 +9,6 @@ module _ {L : Type 0} {o : Ops L} (l : Laws o) where
 
   -- Sums ---------------------------------------------------------------------------------------
 
-<<<<<<< HEAD
-  pub unit_left : (a : L) → o.plus o.zero a ≡ a
-  unit_left a = l.comm o.zero a ∙ l.unit a
-
-  pub left_comm : (a b c : L) → a ⊕ (b ⊕ c) ≡ b ⊕ (a ⊕ c)
-  left_comm a b c = sym (l.assoc a b c) ∙ ap (λ x. x ⊕ c) (l.comm a b) ∙ l.assoc b a c
-
-=======
   -- zero on the left
   pub unit_left : (a : L) → o.plus o.zero a ≡ a
   unit_left a = l.comm o.zero a ∙ l.unit a
@@ -26,7 +18,6 @@ module _ {L : Type 0} {o : Ops L} (l : Laws o) where
   left_comm a b c = sym (l.assoc a b c) ∙ ap (λ x. x ⊕ c) (l.comm a b) ∙ l.assoc b a c
 
   -- what is added on both sides may go
->>>>>>> 6b49c8230757ebf838d9944df2225807a782a698
   pub cancel : (a b c : L) → a ⊕ c ≡ b ⊕ c → a ≡ b
   cancel a b c e = sym (l.add_sub a c) ∙ ap (λ x. o.minus x c) e ∙ l.add_sub b c
 
@@ -46,10 +37,7 @@ module _ {L : Type 0} {o : Ops L} (l : Laws o) where
 
   -- Order --------------------------------------------------------------------------------------
 
-<<<<<<< HEAD
-=======
   -- equal amounts are at most each other
->>>>>>> 6b49c8230757ebf838d9944df2225807a782a698
   pub le_of_eq : (a b : L) → a ≡ b → Le o a b
   le_of_eq a b e = subst (λ x. Le o a x) e (l.le_refl a)
 
@@ -57,27 +45,11 @@ module _ {L : Type 0} {o : Ops L} (l : Laws o) where
   pub le_of_not : (a b : L) → o.leb a b ≡ false → Le o b a
   le_of_not a b e = elim (l.le_total a b) [ inl h ↦ absurd (true≢false (sym h ∙ e)) | inr h ↦ h ]
 
-<<<<<<< HEAD
-=======
   -- orders add up
->>>>>>> 6b49c8230757ebf838d9944df2225807a782a698
   pub le_add : (a b c d : L) → Le o a b → Le o c d → Le o (a ⊕ c) (b ⊕ d)
   le_add a b c d h k =
       l.le_trans _ _ _ (l.le_plus a b c h) (subst₂ (Le o) (l.comm c b) (l.comm d b) (l.le_plus c d b k))
 
-<<<<<<< HEAD
-  pub le_left : (a b c : L) → Le o a b → Le o (c ⊕ a) (c ⊕ b)
-  le_left a b c h = le_add c c a b (l.le_refl c) h
-
-  -- an order, each end written another way
-  pub le_at : (x y p q : L) → Le o p q → x ≡ p → y ≡ q → Le o x y
-  le_at x y p q h e f = subst₂ (Le o) (sym e) (sym f) h
-
-  -- an order, c added at both ends
-  pub le_by : (c x y p q : L) → Le o p q → x ⊕ c ≡ p → y ⊕ c ≡ q → Le o x y
-  le_by c x y p q h e f = l.le_cancel x y c (le_at _ _ _ _ h e f)
-
-=======
   -- an order, with c added on the left
   pub le_left : (a b c : L) → Le o a b → Le o (c ⊕ a) (c ⊕ b)
   le_left a b c h = le_add c c a b (l.le_refl c) h
@@ -91,7 +63,6 @@ module _ {L : Type 0} {o : Ops L} (l : Laws o) where
   le_by c x y p q h e f = l.le_cancel x y c (le_at _ _ _ _ h e f)
 
   -- an order of doubles is one of the amounts
->>>>>>> 6b49c8230757ebf838d9944df2225807a782a698
   pub le_half : (a b : L) → Le o (a ⊕ a) (b ⊕ b) → Le o a b
   le_half a b h = go (o.leb a b) refl
     where
@@ -101,10 +72,7 @@ module _ {L : Type 0} {o : Ops L} (l : Laws o) where
           let under : Le o (b ⊕ b) (b ⊕ a) = le_left b a b (le_of_not a b e) in
           l.le_cancel a b a (l.le_trans _ _ _ h under)
 
-<<<<<<< HEAD
-=======
   -- and the other way
->>>>>>> 6b49c8230757ebf838d9944df2225807a782a698
   pub le_double : (a b : L) → Le o a b → Le o (a ⊕ a) (b ⊕ b)
   le_double a b h = le_add a b a b h h
 
@@ -126,10 +94,7 @@ module _ {L : Type 0} {o : Ops L} (l : Laws o) where
       (rw (← at) (simp (l.assoc, l.comm, left_comm)))
       (rw (← ah) (simp (l.assoc, l.comm, left_comm)))
 
-<<<<<<< HEAD
-=======
   -- the same, of the drops as differences
->>>>>>> 6b49c8230757ebf838d9944df2225807a782a698
   pub drop_le : (e e' f f' c : L) → Le o (o.minus e e') c → Le o (o.minus f' f) c → Le o (o.minus e f) (o.minus e' f' ⊕ (c ⊕ c))
   drop_le e e' f f' c h k =
       reduced e e' f f' c (o.minus e f) (o.minus e' f') (l.sub_add e f) (l.sub_add e' f') (minus_le e e' c h) (minus_le f' f c k)

@@ -3,22 +3,11 @@ use Rattle.std.proofs.Common.{◌≡◌, Some, None, Option, refl}
 use Rattle.optimality.proofs.Marked.{On, Has}
 
 module _ {X : Type 0} where
-<<<<<<< HEAD
-=======
   -- the mark, and what holds of it
->>>>>>> 6b49c8230757ebf838d9944df2225807a782a698
   pub has_parts : (x : Option X) (P : X → Type 0) → Has x P → (y : X) × (x ≡ Some y) × P y
   has_parts None P h = absurd h
   has_parts (Some y) P h = (y, refl, h)
 
-<<<<<<< HEAD
-  pub has_from : (x : Option X) (P : X → Type 0) (y : X) → x ≡ Some y → P y → Has x P
-  has_from x P y e h = rw e h
-
-  pub on_at : (x : Option X) (P : X → Type 0) (y : X) → x ≡ Some y → On x P → P y
-  on_at x P y e h = rw e at h
-
-=======
   -- a mark is there, and P holds of it
   pub has_from : (x : Option X) (P : X → Type 0) (y : X) → x ≡ Some y → P y → Has x P
   has_from x P y e h = rw e h
@@ -28,7 +17,6 @@ module _ {X : Type 0} where
   on_at x P y e h = rw e at h
 
   -- what holds of each mark that is there
->>>>>>> 6b49c8230757ebf838d9944df2225807a782a698
   pub on_from : (x : Option X) (P : X → Type 0) → ((y : X) → x ≡ Some y → P y) → On x P
   on_from None P f = tt
   on_from (Some y) P f = f y refl
