@@ -53,6 +53,10 @@ module _ {C L S : Type 0} (c : cost.Ghosts C L S) where
   spread net side label [] sp = Some sp
   spread net side label (k ∷ ks) sp = option_and_then (spread net side label ks) (along side label k (slice_get net.sections k) sp)
 
+  -- the launcher is open forward, and the trap backward
+  abbrev pub first_row : Net S → ℕ → Row C L S
+  first_row net u = record { forward = first_mark c (u == net.launcher); backward = first_mark c (u == net.trap) }
+
 -- the station closed, with the label as it reads, and none of its sections gone through
 abbrev pub closing : {C L S : Type 0} → Side → Front L → State C L S → Spread C L S
 closing side f st = record { rows = put st.rows side f.station (record { label = f.label; arrival = f.arrival; closed = true }); ceiling = st.ceiling }
@@ -83,15 +87,11 @@ module _ {C L S : Type 0} (p : Problem C L S) where
       (option_map (after st) (spread p.kind p.net side f.label (starters side p.net f.station) (closing side f st)))
       None
 
-  -- Opening ------------------------------------------------------------------------------------
-
-  abbrev pub first_row : ℕ → Row C L S
-  first_row u = record { forward = first_mark p.kind (u == p.net.launcher); backward = first_mark p.kind (u == p.net.trap) }
-
+  -- what a search begins with
   abbrev pub opened : State C L S
   opened =
       record {
         taken = 0;
         ceiling = cond (p.net.launcher == p.net.trap) (Met p.kind.ops.zero p.net.launcher) Absent;
-        rows = map first_row (range_with_len 0 p.net.stations);
+        rows = map (first_row p.kind p.net) (range_with_len 0 p.net.stations);
       }

@@ -1,2 +1,4 @@
 pub mod Spreads
 pub mod Following
+pub mod Ready
+pub mod Opened

@@ -1,5 +1,5 @@
 -- What the calls of a search answer, and what search and sheet then hold; and which search has its sheet to itself.
-use Rattle.std.specs.Prelude.{ℕ, ◌+◌, Bool, cond, List, [], ◌∷◌, ◌++◌, length, take, drop, Some, None, Option, Ok, Err, Result, ◌==◌, nat_lt}
+use Rattle.std.specs.Prelude.{◌≡◌, ℕ, ◌+◌, ◌^◌, ◌<◌, Bool, cond, List, [], ◌∷◌, ◌++◌, length, take, drop, Some, None, Option, Ok, Err, Result, ◌==◌, nat_lt}
 use Rattle.amounts.specs.declared.cost.Cost as cost
 use Rattle.networks.specs.declared.network.Network as network
 use Rattle.networks.specs.declared.estimates.Estimates as estimates
@@ -48,6 +48,11 @@ module _ {C N E L S : Type 0} where
   abbrev pub running : N → E → State C L S → Running C N E L S
   running net given st = record { net = net; estimates = given; taken = st.taken; ceiling = st.ceiling }
 
+-- the search is still over the same network and estimates
+pub record Kept {C N E L S : Type 0} (before after : Running C N E L S) : Type 0 where
+  pub net : after.net ≡ before.net
+  pub estimates : after.estimates ≡ before.estimates
+
 -- Open -------------------------------------------------------------------------------------------
 
 -- what an Open answers, and what the sheet then holds
@@ -61,6 +66,11 @@ pub record Opening (C N E L S : Type 0) : Type 0 where
 pub record Stepped (C L S : Type 0) : Type 0 where
   pub answer : Result (Unit {0}) Fault
   pub state : State C L S
+
+-- a front is one of the stations, and has a label that a row holds
+pub record Ready {C L S : Type 0} (p : Problem C L S) (f : Front L) : Type 0 where
+  pub station : f.station < p.net.stations
+  pub label : p.kind.ops.size f.label < 2 ^ 44
 
 module _ {C L S : Type 0} (p : Problem C L S) where
   -- the first section that breaks the estimates, counted from k, and the side, forward first

@@ -4,5 +4,6 @@
 pub mod amounts_of;
 pub mod dry;
 pub mod fronts;
+pub mod opening;
 pub mod running;
 pub mod sections;

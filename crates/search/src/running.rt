@@ -1,17 +1,18 @@
 //! A search: running, found, or without a route.
-ghost use Rattle.std.specs.Prelude.{◌≡◌, ◌^◌, ◌<◌, ◌≤◌, length, Some, true, cond, None, is_some};
-ghost use Rattle.optimality.specs.Search.{front, floor, ended, spread, closing};
+ghost use Rattle.std.specs.Prelude.{◌≡◌, ◌^◌, ◌<◌, ◌≤◌, length, Some, true, cond, None, is_some, option_map, IfSome};
+ghost use Rattle.optimality.specs.Search.{front, floor, ended, spread, closing, after};
 ghost use Rattle.optimality.specs.Keys.{smaller};
 ghost use Rattle.networks.specs.Nets.{InRange, starters};
-ghost use Rattle.search.specs.Calls.{problem, standing};
+ghost use Rattle.search.specs.Calls.{problem, standing, Kept, Ready, step};
 
 use crate::dry::too_large;
 use crate::fronts::{key_sum, least, smaller, twice, within};
+use crate::sections::{put, spread};
 use amounts::cost::Cost;
-use faults::{Fault, Side};
+use faults::{Fault, Layer, Refusal, Side};
 use networks::estimates::Estimates;
 use networks::network::Network;
-use optimality::sheet::{Ceiling, Front, Row};
+use optimality::sheet::{Ceiling, Front, Mark, Row};
 
 /// A label of at most this size leads to none that a row does not hold, along one section.
 const LIGHT: u64 = (1 << 44) - (1 << 32);
@@ -69,14 +70,16 @@ pub struct Bounds<L> {
 impl<C: Cost, N: Network<C>, E: Estimates<C>> Running<C, N, E> {
     /// A side's open station of least key.
     fn front(&self, own: &[Row<C>], side: Side) -> Option<Front<C::Label>>
-        ensures { result ≡ front (problem C.Cost N.Network E.Estimates self.now) (standing self.now own.now) side }
+        ensures exact { result ≡ front (problem C.Cost N.Network E.Estimates self.now) (standing self.now own.now) side }
+        ensures ready { IfSome result (Ready (problem C.Cost N.Network E.Estimates self.now)) }
     {
         least::<C, E>(own, &self.estimates, side, self.net.stations())
     }
 
     /// The front that a step takes; none where the search is ended.
     fn next(&self, own: &[Row<C>], side: Side) -> Option<Front<C::Label>>
-        ensures { result ≡ cond (ended (problem C.Cost N.Network E.Estimates self.now) (standing self.now own.now)) None (front (problem C.Cost N.Network E.Estimates self.now) (standing self.now own.now) side) }
+        ensures exact { result ≡ cond (ended (problem C.Cost N.Network E.Estimates self.now) (standing self.now own.now)) None (front (problem C.Cost N.Network E.Estimates self.now) (standing self.now own.now) side) }
+        ensures ready { IfSome result (Ready (problem C.Cost N.Network E.Estimates self.now)) }
     {
         let forward = self.front(own, Side::Forward);
         let backward = self.front(own, Side::Backward);
@@ -131,5 +134,54 @@ impl<C: Cost, N: Network<C>, E: Estimates<C>> Running<C, N, E> {
             }
         }
         true
+    }
+
+    /// Closes the front, and goes along its sections.
+    fn take(&mut self, own: &mut [Row<C>], side: Side, front: Front<C::Label>)
+        requires range { InRange C.Cost.parts (N.Network.meaning self.old.net) }
+        requires long { (N.Network.meaning self.old.net).stations ≤ length own.old }
+        requires inside { front.station < length own.old }
+        requires few { self.old.taken < 4096 }
+        requires fits { is_some (spread C.Cost (N.Network.meaning self.old.net) side front.label (starters side (N.Network.meaning self.old.net) front.station) (closing side front (standing self.old own.old))) ≡ true }
+        ensures exact { Some (standing self.new own.new) ≡ option_map (after (standing self.old own.old)) (spread C.Cost (N.Network.meaning self.old.net) side front.label (starters side (N.Network.meaning self.old.net) front.station) (closing side front (standing self.old own.old))) }
+        ensures kept { Kept self.old self.new }
+    {
+        let mark = Mark {
+            label: front.label,
+            arrival: front.arrival,
+            closed: true,
+        };
+        put::<C>(own, side, front.station, mark);
+        self.ceiling = spread::<C, N>(
+            own,
+            &self.net,
+            side,
+            front.station,
+            front.label,
+            self.ceiling,
+        );
+        self.taken += 1;
+    }
+
+    /// Takes the open station of least key on a side, and goes along its sections. Turned down, it changes nothing.
+    fn step(&mut self, sheet: &mut [Row<C>], side: Side) -> Result<(), Fault>
+        ensures exact { record { answer = result; state = standing self.new sheet.new } ≡ step (problem C.Cost N.Network E.Estimates self.old) (standing self.old sheet.old) side }
+        ensures kept { Kept self.old self.new }
+    {
+        let rows = sheet.len();
+        let foreign = Layer::Search.fault(Refusal::ForeignSheet { rows });
+        let stations = self.net.stations();
+        if rows < stations {
+            return Err(foreign);
+        }
+        let (own, _) = sheet.split_at_mut(stations);
+        let Some(front) = self.next(own, side) else {
+            return Err(Layer::Search.fault(Refusal::Ended { taken: self.taken }));
+        };
+        if self.taken >= stations - 1 || !self.fits(own, side, &front) {
+            return Err(foreign);
+        }
+        self.take(own, side, front);
+        Ok(())
     }
 }

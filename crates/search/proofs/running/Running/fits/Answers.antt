@@ -1,10 +1,6 @@
-use Rattle.std.proofs.Common.{◌≡◌, ◌^◌, ◌<◌, ℕ, Some, sym, arith}
-use Rattle.std.specs.List.{slice_get}
-use Rattle.networks.specs.declared.section.Section.{Section}
+use Rattle.std.proofs.Common.{false, sym, arith}
 use Rattle.networks.specs.Nets.{starters}
-use Rattle.optimality.specs.Search.{closing}
 use Rattle.optimality.specs.Sheets.{opposite}
-use Rattle.optimality.specs.Problems.{head}
 use Rattle.optimality.proofs.Ranges.{section_fit, tail_within}
 use Rattle.search.specs.Calls.{standing}
 use Rattle.search.proofs.Spreads.{spread_light}
@@ -24,7 +20,7 @@ loop-k-init g c = followed_none g.C.Cost c.args.side (g.N.Network.meaning c.args
 pub returns-then-too_large : goal.returns-then-too_large
 returns-then-too_large g c =
     let net = g.N.Network.meaning c.args.self.now.net in
-    sym (followed_large g.C.Cost c.args.side net c.args.front.now (standing c.args.self.now c.args.own.now) c.requires.inside c.requires.held (λ k s e. omega (arith, tail_within g.C.Cost net c.requires.range k s (opposite c.args.side) e, c.requires.long)) c.loop-k.k c.in-Some.number (c.in-Some.ensures.exact) (sym c.if-too_large.ensures) c.loop-k.invariant)
+    sym {b = false} (followed_large g.C.Cost c.args.side net c.args.front.now (standing c.args.self.now c.args.own.now) c.requires.inside c.requires.held (λ k s e. omega (arith, tail_within g.C.Cost net c.requires.range k s (opposite c.args.side) e, c.requires.long)) c.loop-k.k c.in-Some.number (c.in-Some.ensures.exact) (sym c.if-too_large.ensures) c.loop-k.invariant)
 
 pub loop-k-preserved : goal.loop-k-preserved
 loop-k-preserved g c =
