@@ -34,10 +34,12 @@ module _ {C L S : Type 0} (c : cost.Ghosts C L S) (laws : Laws c.ops) where
   met_ind a u None exact ceiling P new old = old tt
   met_ind a u (Some m) exact ceiling P new old = rw exact (lowered_ind (c.ops.plus a m.label) u ceiling P (λ falls. new) old)
 
+  -- the ceiling does not rise
   pub met_falls : (a : L) (u : ℕ) (w : Option (Mark L)) → Exact a w → (ceiling : Ceiling L) → Falls c.ops ceiling (met c a u w ceiling)
   met_falls a u None exact ceiling = λ x h. h
   met_falls a u (Some m) exact ceiling = rw exact (lowered_ind (c.ops.plus a m.label) u ceiling (Falls c.ops ceiling) (λ falls. falls) (λ h x k. k))
 
+  -- and is at most the sum of the two labels
   pub met_le : (a : L) (u : ℕ) (w : Option (Mark L)) → Exact a w → (ceiling : Ceiling L) → On w (λ m. CeilLe c.ops (met c a u w ceiling) (c.ops.plus a m.label))
   met_le a u None exact ceiling = tt
   met_le a u (Some m) exact ceiling = rw exact (lowered_ind (c.ops.plus a m.label) u ceiling (λ t. CeilLe c.ops t (c.ops.plus a m.label)) (λ falls. laws.le_refl _) (λ h. h))
@@ -61,6 +63,7 @@ module _ {C L S : Type 0} (p : Problem C L S) (laws : Laws p.kind.ops) where
 
   -- a better label a is put at v
   module _ (f g w : Marks L) (v : ℕ) (a : L) (k : Option ℕ) (puts : Puts f v (opened_mark a k) g) (exact : On (w v) (λ m. sum p.kind a m.label ≡ p.kind.ops.plus a m.label)) (ceiling : Ceiling L) where
+    -- the ceiling is still at most the sum of two labels of one station
     pub joint_met : Joint p f w ceiling → Joint p g w (met p.kind a v (w v) ceiling)
     joint_met joint i =
         let now = met p.kind a v (w v) ceiling in
@@ -68,7 +71,7 @@ module _ {C L S : Type 0} (p : Problem C L S) (laws : Laws p.kind.ops) where
         (λ e. rw e (met_le p.kind laws a v (w v) exact ceiling))
         (λ ne. on_map (f i) _ _ (λ m h. on_map (w i) _ _ (λ b l. met_falls p.kind laws a v (w v) exact ceiling _ l) h) (joint i))
 
-    -- the ceiling's station keeps its label, since a better one lowers the ceiling
+    -- where the ceiling stays it has another station than v, since the better label would lower it
     kept : (now : Ceiling L) → On (f v) (λ m. p.kind.ops.leb m.label a ≡ false) → Meeting p f w now → On (w v) (λ m. CeilLe p.kind.ops now (p.kind.ops.plus a m.label)) → Meeting p g w now
     kept Absent better meeting le = tt
     kept (Met x m) better meeting le =
@@ -80,6 +83,7 @@ module _ {C L S : Type 0} (p : Problem C L S) (laws : Laws p.kind.ops) where
         undercut x a q.label b.label (on_at (f v) _ q fq better) is (on_at (w v) _ b wb le)))
         (λ ne. meeting)
 
+    -- and still such a sum itself
     pub meeting_met : On (f v) (λ m. p.kind.ops.leb m.label a ≡ false) → Meeting p f w ceiling → Meeting p g w (met p.kind a v (w v) ceiling)
     meeting_met better meeting =
         met_ind p.kind laws a v (w v) exact ceiling (Meeting p g w)

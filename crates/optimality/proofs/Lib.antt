@@ -8,7 +8,13 @@ pub mod Moving
 pub mod Putting
 pub mod Sides
 pub mod Ceilings
-pub mod Ranges
+pub mod Going
 pub mod Fronts
 pub mod Bounds
 pub mod Lower
+pub mod Closing
+pub mod Spreading
+pub mod Opening
+pub mod Running
+pub mod Taking
+pub mod Ranges

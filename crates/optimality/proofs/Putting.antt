@@ -26,11 +26,13 @@ pub puts_ind : {L : Type 0} {f g : Marks L} {v : ℕ} {m : Mark L} → Puts f v 
 puts_ind {g = g} {v = v} puts i P new old = ⊎_elim (λ e. subst P (sym (ap g e ∙ puts.here)) (new e)) (λ ne. subst P (sym (puts.elsewhere i ne)) (old ne)) (cases_eq i v)
 
 module _ {X : Type 0} where
+  -- what stands where a list is set
   get_set : (xs : List X) (i : ℕ) (x : X) → i < length xs → slice_get (set xs i x) i ≡ Some x
   get_set [] i x h = absurd (omega arith)
   get_set (y ∷ ys) zero x h = refl
   get_set (y ∷ ys) (suc i) x h = get_set ys i x (omega arith)
 
+  -- and elsewhere
   get_set_other : (xs : List X) (i j : ℕ) (x : X) → (j ≡ i → ⊥) → slice_get (set xs i x) j ≡ slice_get xs j
   get_set_other [] i j x ne = refl
   get_set_other (y ∷ ys) zero zero x ne = absurd (ne refl)
@@ -39,6 +41,7 @@ module _ {X : Type 0} where
   get_set_other (y ∷ ys) (suc i) (suc j) x ne = get_set_other ys i j x (λ e. ne (ap suc e))
 
 module _ {C L S : Type 0} where
+  -- the mark that a row is given, and the one that it keeps
   mark_same : (side : Side) (m : Option (Mark L)) (r : Row C L S) → mark_on side (with_mark side m r) ≡ m
   mark_same Forward m r = refl
   mark_same Backward m r = refl
@@ -52,9 +55,11 @@ module _ {C L S : Type 0} where
   closed_by Forward r = refl
   closed_by Backward r = or_comm (is_closed r.forward) (is_closed r.backward)
 
+  -- once it has the mark m
   closed_with : (side : Side) (m : Mark L) (r : Row C L S) → row_closed (with_mark side (Some m) r) ≡ (m.closed || is_closed (mark_on (opposite side) r))
   closed_with side m r = closed_by side (with_mark side (Some m) r) ∙ ap₂ (λ a b. is_closed a || is_closed b) (mark_same side (Some m) r) (mark_other side (Some m) r)
 
+  -- there are as many rows as before
   pub length-put : (rows : List (Row C L S)) (side : Side) (v : ℕ) (m : Mark L) → length (put rows side v m) ≡ length rows
   length-put rows side v m = length-set rows v _
 
@@ -63,6 +68,7 @@ module _ {C L S : Type 0} (c : cost.Ghosts C L S) where
   pub reads : (m : Mark L) → c.ops.size m.label < 2 ^ 44 → seen c m ≡ m
   reads m small = ap (λ b. record { label = cond b m.label c.ops.zero; arrival = m.arrival; closed = m.closed }) (lt-ltb _ _ small)
 
+  -- a mark is read as closed or open as it is
   seen_closed : (m : Option (Mark L)) → is_closed (option_map (seen c) m) ≡ is_closed m
   seen_closed None = refl
   seen_closed (Some m) = refl
@@ -71,6 +77,7 @@ module _ {C L S : Type 0} (c : cost.Ghosts C L S) (rows : List (Row C L S)) (v :
   abbrev row : Row C L S
   row = get_or rows v blank_row
 
+  -- what is read of a row that is there
   mark_there : (side : Side) → mark_at c rows side v ≡ option_map (seen c) (mark_on side row)
   mark_there side = ap (λ r. option_map (seen c) (mark_in side r)) (slice_get-get_or rows v blank_row inside)
 
@@ -78,13 +85,14 @@ module _ {C L S : Type 0} (c : cost.Ghosts C L S) (rows : List (Row C L S)) (v :
   closed_there side = sym (ap is_closed (mark_there side) ∙ seen_closed c (mark_on side row))
 
   module _ (side : Side) (m : Mark L) where
+    -- what is read at v, and elsewhere, once the mark is put
     at_v : (s : Side) → mark_at c (put rows side v m) s v ≡ option_map (seen c) (mark_on s (with_mark side (Some m) row))
     at_v s = ap (λ r. option_map (seen c) (mark_in s r)) (get_set rows v (with_mark side (Some m) row) inside)
 
     not_at_v : (s : Side) (i : ℕ) → (i ≡ v → ⊥) → mark_at c (put rows side v m) s i ≡ mark_at c rows s i
     not_at_v s i ne = ap (λ r. option_map (seen c) (mark_in s r)) (get_set_other rows v i _ ne)
 
-    -- a mark is put
+    -- the side has the mark at v, and what it had elsewhere
     pub put_puts : c.ops.size m.label < 2 ^ 44 → Puts (mark_at c rows side) v m (mark_at c (put rows side v m) side)
     put_puts small = record {
       here = at_v side ∙ ap (option_map (seen c)) (mark_same side (Some m) row) ∙ ap Some (reads c m small);

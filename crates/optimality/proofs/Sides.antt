@@ -1,8 +1,13 @@
 -- One text for both sides.
-use Rattle.std.proofs.Common.{◌≡◌, ℕ, suc, ◌+◌, refl, arith}
+use Rattle.std.proofs.Common.{◌≡◌, ℕ, suc, ◌+◌, ◌≤◌, refl, arith}
 use Rattle.faults.specs.declared.Side.{Side}
 use Rattle.faults.specs.declared.Side.TheVariants.{Forward, Backward}
 use Rattle.optimality.specs.Sheets.{opposite}
+
+-- the other side's other side is the side itself
+pub opposite_twice : (side : Side) → opposite (opposite side) ≡ side
+opposite_twice Forward = refl
+opposite_twice Backward = refl
 
 -- what holds of a side and of the other holds of both
 pub by_side : (side : Side) (P : Side → Type 0) → P side → P (opposite side) → (s : Side) → P s
@@ -18,6 +23,11 @@ both_ways R turn f Forward h Backward = turn _ _ h
 both_ways R turn f Backward h Forward = turn _ _ h
 both_ways R turn f Backward h Backward = h
 
+-- a side's number is a part of the sum
+pub part_of : (side : Side) (n : Side → ℕ) → n side ≤ n Forward + n Backward
+part_of Forward n = omega arith
+part_of Backward n = omega arith
+
 -- one more on a side
 abbrev pub bump : Side → (Side → ℕ) → Side → ℕ
 bump Forward n Forward = suc (n Forward)
@@ -25,6 +35,7 @@ bump Forward n Backward = n Backward
 bump Backward n Forward = n Forward
 bump Backward n Backward = suc (n Backward)
 
+-- the side has one more, the other side what it had, and both together one more
 pub bump_here : (side : Side) (n : Side → ℕ) → bump side n side ≡ suc (n side)
 bump_here Forward n = refl
 bump_here Backward n = refl
