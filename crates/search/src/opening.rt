@@ -1,5 +1,6 @@
 //! Whether a search can be opened, and the first rows.
-ghost use Rattle.std.specs.Prelude.{◌≡◌, length, map, Option};
+ghost use Rattle.std.specs.Prelude.{◌≡◌, length, map, Option, cond, ◌==◌};
+ghost use Rattle.optimality.specs.declared.sheet.Ceiling.TheVariants.{Absent, Met};
 ghost use Rattle.std.specs.List.{range_with_len};
 ghost use Rattle.optimality.specs.Keys.{breaks, first_mark};
 ghost use Rattle.optimality.specs.Search.{first_row};
@@ -12,7 +13,7 @@ use faults::{Refusal, Side};
 use networks::estimates::Estimates;
 use networks::network::Network;
 use networks::section::Section;
-use optimality::sheet::{Mark, Row, opposite};
+use optimality::sheet::{Ceiling, Mark, Row, opposite};
 
 /// Whether a side's estimate falls by more than its amount along the section, which is open.
 fn breaks<C: Cost, E: Estimates<C>>(
@@ -99,5 +100,18 @@ pub fn write_first<C: Cost, N: Network<C>>(own: &mut [Row<C>], net: &N)
 {
     for station in 0..own.len() {
         own[station] = first_row::<C, N>(net, station);
+    }
+}
+
+/// The first ceiling: zero at the launcher, where launcher and trap are one.
+pub fn first_ceiling<C: Cost>(launcher: usize, trap: usize) -> Ceiling<C::Label>
+    ensures { result ≡ cond (launcher == trap) (Met C.Cost.ops.zero launcher) Absent }
+{
+    if launcher != trap {
+        return Ceiling::Absent;
+    }
+    Ceiling::Met {
+        amount: C::ZERO,
+        station: launcher,
     }
 }

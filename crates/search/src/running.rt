@@ -3,10 +3,12 @@ ghost use Rattle.std.specs.Prelude.{◌≡◌, ◌^◌, ◌<◌, ◌≤◌, leng
 ghost use Rattle.optimality.specs.Search.{front, floor, ended, spread, closing, after};
 ghost use Rattle.optimality.specs.Keys.{smaller};
 ghost use Rattle.networks.specs.Nets.{InRange, starters};
-ghost use Rattle.search.specs.Calls.{problem, standing, Kept, Ready, step};
+ghost use Rattle.faults.specs.declared.Refusal.TheVariants.{ForeignSheet};
+ghost use Rattle.search.specs.Calls.{posed, problem, standing, Kept, Ready, opening, step, bounds, unfinished, finish, search_fault};
 
 use crate::dry::too_large;
 use crate::fronts::{key_sum, least, smaller, twice, within};
+use crate::opening::{first_ceiling, unfit, write_first};
 use crate::sections::{put, spread};
 use amounts::cost::Cost;
 use faults::{Fault, Layer, Refusal, Side};
@@ -169,7 +171,7 @@ impl<C: Cost, N: Network<C>, E: Estimates<C>> Running<C, N, E> {
         ensures kept { Kept self.old self.new }
     {
         let rows = sheet.len();
-        let foreign = Layer::Search.fault(Refusal::ForeignSheet { rows });
+        let foreign = foreign(rows);
         let stations = self.net.stations();
         if rows < stations {
             return Err(foreign);
@@ -184,4 +186,88 @@ impl<C: Cost, N: Network<C>, E: Estimates<C>> Running<C, N, E> {
         self.take(own, side, front);
         Ok(())
     }
+
+    fn begin(net: N, estimates: E, sheet: &mut [Row<C>]) -> Result<Self, Unopened<N, E>>
+        ensures { record { answer = result; sheet = sheet.new } ≡ opening (posed C.Cost N.Network E.Estimates net estimates) net estimates sheet.old }
+    {
+        if let Some(refusal) = unfit::<C, N, E>(&net, &estimates, sheet.len()) {
+            return Err(Unopened {
+                net,
+                estimates,
+                fault: Layer::Search.fault(refusal),
+            });
+        }
+        let (own, _) = sheet.split_at_mut(net.stations());
+        write_first::<C, N>(own, &net);
+        let ceiling = first_ceiling::<C>(net.launcher(), net.trap());
+        Ok(Running {
+            net,
+            estimates,
+            taken: 0,
+            ceiling,
+        })
+    }
+
+    fn known(&self, sheet: &[Row<C>]) -> Result<Bounds<C::Label>, Fault>
+        ensures { result ≡ bounds (problem C.Cost N.Network E.Estimates self.now) (standing self.now sheet.now) }
+    {
+        let Some(own) = sheet.get(..self.net.stations()) else {
+            return Err(foreign(sheet.len()));
+        };
+        Ok(Bounds {
+            floor: self.floor(own),
+            ceiling: self.ceiling,
+        })
+    }
+
+    /// Why the search cannot be finished.
+    fn unfinished(&self, sheet: &[Row<C>]) -> Option<Fault>
+        ensures { result ≡ unfinished (problem C.Cost N.Network E.Estimates self.now) (standing self.now sheet.now) }
+    {
+        let Some(own) = sheet.get(..self.net.stations()) else {
+            return Some(foreign(sheet.len()));
+        };
+        if self.ended(own) {
+            return None;
+        }
+        Some(Layer::Search.fault(Refusal::NotEnded { taken: self.taken }))
+    }
+
+    fn conclude(self, sheet: &[Row<C>]) -> Result<Finished<C, N, E>, Unfinished<C, N, E>>
+        ensures { result ≡ finish (problem C.Cost N.Network E.Estimates self) self sheet.now }
+    {
+        if let Some(fault) = self.unfinished(sheet) {
+            return Err(Unfinished {
+                search: self,
+                fault,
+            });
+        }
+        let Running {
+            net,
+            estimates,
+            taken,
+            ceiling,
+        } = self;
+        Ok(match ceiling {
+            Ceiling::Met { amount, station } => Finished::Found(Found {
+                net,
+                estimates,
+                taken,
+                cost: amount,
+                meeting: station,
+            }),
+            Ceiling::Absent => Finished::NoRoute(NoRoute {
+                net,
+                estimates,
+                taken,
+            }),
+        })
+    }
+}
+
+/// The fault of a sheet of so many rows that is not the search's.
+fn foreign(rows: usize) -> Fault
+    ensures { result ≡ search_fault (ForeignSheet rows) }
+{
+    Layer::Search.fault(Refusal::ForeignSheet { rows })
 }
