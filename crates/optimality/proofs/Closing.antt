@@ -3,12 +3,12 @@ use Rattle.std.proofs.Common.{◌≡◌, ◌+◌, ◌<◌, false, length, refl, 
 use Rattle.std.specs.List.{count_by}
 use Rattle.faults.specs.declared.Side.{Side}
 use Rattle.optimality.specs.declared.sheet.Front.{Front}
-use Rattle.optimality.specs.Sheets.{opposite, State}
+use Rattle.optimality.specs.Sheets.{is_closed, opposite, State}
 use Rattle.optimality.specs.Problems.{Problem, Fair}
 use Rattle.optimality.specs.Search.{mark_at, closing}
 use Rattle.optimality.proofs.Having.{on_at}
 use Rattle.optimality.proofs.Fronts.{seen_small}
-use Rattle.optimality.proofs.Invariant.{Next, is_closed, row_closed}
+use Rattle.optimality.proofs.Invariant.{Next, row_closed}
 use Rattle.optimality.proofs.Putting.{Puts, put_puts, put_other, length-put, count_more}
 use Rattle.optimality.proofs.Going.{closed_mark}
 

@@ -10,7 +10,7 @@ use Rattle.optimality.specs.declared.sheet.Mark.{Mark}
 use Rattle.optimality.specs.declared.sheet.Row.{Row}
 use Rattle.optimality.specs.declared.sheet.Ceiling.{Ceiling}
 use Rattle.optimality.specs.declared.sheet.Front.{Front}
-use Rattle.optimality.specs.Sheets.{opposite, State}
+use Rattle.optimality.specs.Sheets.{is_closed, opposite, State}
 use Rattle.optimality.specs.Problems.{Problem, start, head, guess, Arc}
 use Rattle.optimality.specs.Keys.{opened_mark}
 use Rattle.optimality.specs.Search.{mark_at}
@@ -61,10 +61,6 @@ module _ {C L S : Type 0} (p : Problem C L S) where
   -- and it is that sum at its own station
   abbrev pub Meeting : Marks L → Marks L → Ceiling L → Type 0
   Meeting f w ceiling = OnMet ceiling (λ a m. Has (f m) (λ x. Has (w m) (λ y. a ≡ p.kind.ops.plus x.label y.label)))
-
-abbrev pub is_closed : {L : Type 0} → Option (Mark L) → Bool
-is_closed None = false
-is_closed (Some m) = m.closed
 
 abbrev pub row_closed : {C L S : Type 0} → Row C L S → Bool
 row_closed r = is_closed r.forward || is_closed r.backward

@@ -10,14 +10,14 @@ use Rattle.faults.specs.declared.Side.TheVariants.{Forward, Backward}
 use Rattle.networks.specs.Nets.{tail}
 use Rattle.optimality.specs.declared.sheet.Mark.{Mark}
 use Rattle.optimality.specs.declared.sheet.Ceiling.TheVariants.{Absent, Met}
-use Rattle.optimality.specs.Sheets.{opposite, mark_on, blank_row}
+use Rattle.optimality.specs.Sheets.{is_closed, opposite, mark_on, blank_row}
 use Rattle.optimality.specs.Problems.{Problem, Fair, start}
 use Rattle.optimality.specs.Keys.{opened_mark, first_mark, seen}
 use Rattle.optimality.specs.Search.{mark_in, mark_at, first_row, opened}
 use Rattle.optimality.proofs.Marked.{On, CeilLe}
 use Rattle.optimality.proofs.Having.{has_from}
 use Rattle.optimality.proofs.Group.{le_of_eq}
-use Rattle.optimality.proofs.Invariant.{Marks, Chain, SideStands, Joint, Meeting, Stands, is_closed, row_closed}
+use Rattle.optimality.proofs.Invariant.{Marks, Chain, SideStands, Joint, Meeting, Stands, row_closed}
 use Rattle.optimality.proofs.Putting.{reads}
 use Rattle.optimality.proofs.Sides.{both_ways}
 use Rattle.optimality.proofs.Ceilings.{joint_turned, meeting_turned}

@@ -11,10 +11,10 @@ use Rattle.faults.specs.declared.Side.{Side}
 use Rattle.faults.specs.declared.Side.TheVariants.{Forward, Backward}
 use Rattle.optimality.specs.declared.sheet.Mark.{Mark}
 use Rattle.optimality.specs.declared.sheet.Row.{Row}
-use Rattle.optimality.specs.Sheets.{opposite, mark_on, with_mark, blank_row, put}
+use Rattle.optimality.specs.Sheets.{is_closed, opposite, mark_on, with_mark, blank_row, put}
 use Rattle.optimality.specs.Keys.{seen}
 use Rattle.optimality.specs.Search.{mark_in, mark_at}
-use Rattle.optimality.proofs.Invariant.{Marks, is_closed, row_closed}
+use Rattle.optimality.proofs.Invariant.{Marks, row_closed}
 
 -- g has the mark m at v, and what f has elsewhere
 pub record Puts {L : Type 0} (f : Marks L) (v : ℕ) (m : Mark L) (g : Marks L) : Type 0 where

@@ -5,7 +5,7 @@ use Rattle.amounts.specs.Amount.{Le}
 use Rattle.faults.specs.declared.Side.{Side}
 use Rattle.optimality.specs.declared.sheet.Mark.{Mark}
 use Rattle.optimality.specs.declared.sheet.Front.{Front}
-use Rattle.optimality.specs.Sheets.{opposite, State}
+use Rattle.optimality.specs.Sheets.{is_closed, opposite, State}
 use Rattle.optimality.specs.Problems.{Problem, Fair}
 use Rattle.optimality.specs.Keys.{within, key_sum, twice}
 use Rattle.optimality.specs.Search.{mark_at, closing, front, ended}
@@ -15,7 +15,7 @@ use Rattle.optimality.proofs.Group.{le_left}
 use Rattle.optimality.proofs.Exact.{keys_at}
 use Rattle.optimality.proofs.Fronts.{front_stands}
 use Rattle.optimality.proofs.Bounds.{below_trans, least_sum_by, least_sum_is, ceil_below, ceiling_small}
-use Rattle.optimality.proofs.Invariant.{Marks, is_closed, key_at, Next, Stands}
+use Rattle.optimality.proofs.Invariant.{Marks, key_at, Next, Stands}
 use Rattle.optimality.proofs.Sides.{opposite_twice}
 use Rattle.optimality.proofs.Putting.{puts_ind, count_short}
 use Rattle.optimality.proofs.Closing.{closing_puts, closing_other, closing_long, closing_counted}

@@ -1,5 +1,5 @@
 -- One text for both sides.
-use Rattle.std.proofs.Common.{◌≡◌, ℕ, suc, ◌+◌, ◌≤◌, refl, arith}
+use Rattle.std.proofs.Common.{Bool, true, false, true≢false, ◌≡◌, ℕ, suc, ◌+◌, ◌≤◌, refl, sym, ap, arith}
 use Rattle.faults.specs.declared.Side.{Side}
 use Rattle.faults.specs.declared.Side.TheVariants.{Forward, Backward}
 use Rattle.optimality.specs.Sheets.{opposite}
@@ -47,3 +47,13 @@ bump_there Backward n = refl
 pub bump_total : (side : Side) (n : Side → ℕ) → bump side n Forward + bump side n Backward ≡ n Forward + n Backward + 1
 bump_total Forward n = omega arith
 bump_total Backward n = omega arith
+
+is_forward : Side → Bool
+is_forward Forward = true
+is_forward Backward = false
+
+-- the other side is another one
+pub sides_differ : (side : Side) → opposite side ≡ side → ⊥
+unfolding is_forward
+sides_differ Forward e = true≢false (sym (ap is_forward e))
+sides_differ Backward e = true≢false (ap is_forward e)

@@ -13,7 +13,7 @@ use Rattle.optimality.specs.declared.sheet.Mark.{Mark}
 use Rattle.optimality.specs.declared.sheet.Row.{Row}
 use Rattle.optimality.specs.declared.sheet.Front.{Front}
 use Rattle.optimality.specs.declared.sheet.Ceiling.{Ceiling}
-use Rattle.optimality.specs.Sheets.{opposite, put, State}
+use Rattle.optimality.specs.Sheets.{is_closed, opposite, put, State}
 use Rattle.optimality.specs.Problems.{Problem, Fair, Consistent, Arc, head}
 use Rattle.optimality.specs.Keys.{opened_mark, sum, met, improves}
 use Rattle.optimality.specs.Search.{mark_at, Spread, reach, along, spread, closing}
@@ -23,7 +23,7 @@ use Rattle.optimality.proofs.Moving.{on_map, has_then}
 use Rattle.optimality.proofs.Exact.{key_along, key_cancel, candidate_is, labels_sum_is}
 use Rattle.optimality.proofs.Walks.{chain_size}
 use Rattle.optimality.proofs.Fronts.{seen_small}
-use Rattle.optimality.proofs.Invariant.{Marks, is_closed, row_closed, Next, Stands}
+use Rattle.optimality.proofs.Invariant.{Marks, row_closed, Next, Stands}
 use Rattle.optimality.proofs.Putting.{puts_ind, put_puts, put_other, length-put, count_kept}
 use Rattle.optimality.proofs.Ceilings.{Falls, met_falls}
 use Rattle.optimality.proofs.Going.{Going, closing_going, Low, goes_on, putting_going}

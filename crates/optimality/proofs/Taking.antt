@@ -13,7 +13,7 @@ use Rattle.optimality.specs.declared.sheet.Row.{Row}
 use Rattle.optimality.specs.declared.sheet.Front.{Front}
 use Rattle.optimality.specs.declared.sheet.Ceiling.{Ceiling}
 use Rattle.optimality.specs.declared.sheet.Ceiling.TheVariants.{Absent, Met}
-use Rattle.optimality.specs.Sheets.{opposite, State}
+use Rattle.optimality.specs.Sheets.{is_closed, opposite, State}
 use Rattle.optimality.specs.Problems.{Problem, Fair, Consistent, route_cost}
 use Rattle.optimality.specs.Keys.{front_of, nearer, key_sum, twice}
 use Rattle.optimality.specs.Search.{mark_at, least, Spread, spread, closing, after, front, least_sum, floor, ended, taking}
@@ -22,7 +22,7 @@ use Rattle.optimality.proofs.Having.{has_parts, on_at}
 use Rattle.optimality.proofs.Fronts.{front_stands}
 use Rattle.optimality.proofs.Bounds.{Below, Small, below_trans, smaller_left, smaller_most, least_sum_by, least_sum_is, twice_is, ceil_below, ceiling_small}
 use Rattle.optimality.proofs.Lower.{floor_bounds, ceiling_route}
-use Rattle.optimality.proofs.Invariant.{Marks, SideStands, Joint, Meeting, Next, Stands, is_closed}
+use Rattle.optimality.proofs.Invariant.{Marks, SideStands, Joint, Meeting, Next, Stands}
 use Rattle.optimality.proofs.Sides.{by_side, both_ways, bump, bump_here, bump_there, bump_total}
 use Rattle.optimality.proofs.Putting.{puts_ind}
 use Rattle.optimality.proofs.Ceilings.{Falls, joint_turned, meeting_turned}

@@ -1,5 +1,5 @@
 -- Rows and marks, by side.
-use Rattle.std.specs.Prelude.{ℕ, List, Some, None, Option, set, get_or}
+use Rattle.std.specs.Prelude.{ℕ, Bool, false, List, Some, None, Option, set, get_or}
 use Rattle.faults.specs.declared.Side.{Side}
 use Rattle.faults.specs.declared.Side.TheVariants.{Forward, Backward}
 use Rattle.optimality.specs.declared.sheet.Mark.{Mark}
@@ -20,6 +20,10 @@ with_mark Backward m r = record { forward = r.forward; backward = m }
 
 abbrev pub blank_row : {C L S : Type 0} → Row C L S
 blank_row = record { forward = None; backward = None }
+
+abbrev pub is_closed : {L : Type 0} → Option (Mark L) → Bool
+is_closed None = false
+is_closed (Some m) = m.closed
 
 -- the sheet with a side's mark at a station
 abbrev pub put : {C L S : Type 0} → List (Row C L S) → Side → ℕ → Mark L → List (Row C L S)

@@ -1,0 +1,168 @@
+-- What is claimed of every search that has its sheet to itself, whatever the network, the estimates and the kind of cost.
+--
+-- Open accepted the sheet, and then came any list of calls of Forward, Backward, Bounds and Finish, in any order, some of
+-- them turned down, each with the sheet as the last one left it. At the start and after each call:
+-- * Bounds is answered; twice the cost of every route is at least its floor, and some route costs its ceiling;
+-- * over whatever calls come later the floor never falls, and the ceiling never rises;
+-- * a Finish that is accepted answers that there is no route exactly if there is none; else its cost is that of a route,
+--   and every route costs at least as much;
+-- * no station is taken twice, both ends together; the taken count is that of the accepted steps, and below the number of
+--   stations; and only an ended search turns a step down.
+use Rattle.std.specs.Prelude.{◌≡◌, ℕ, ◌+◌, ◌<◌, true, List, [], ◌∷◌, length, is_some, Some, None, Option, Ok, Err, Result, ◌⊎◌, ◌↔◌}
+use Rattle.std.specs.List.{slice_get}
+use Rattle.amounts.specs.Amount.{Le}
+use Rattle.faults.specs.declared.Side.{Side}
+use Rattle.faults.specs.declared.Side.TheVariants.{Forward, Backward}
+use Rattle.faults.specs.declared.Fault.{Fault}
+use Rattle.faults.specs.declared.Refusal.TheVariants.{Ended}
+use Rattle.networks.specs.declared.section.Section.{Section}
+use Rattle.networks.specs.Nets.{tail}
+use Rattle.networks.specs.Routes.{Route}
+use Rattle.optimality.specs.declared.sheet.Row.{Row}
+use Rattle.optimality.specs.declared.sheet.Ceiling.TheVariants.{Absent, Met}
+use Rattle.optimality.specs.Sheets.{is_closed, State}
+use Rattle.optimality.specs.Problems.{Problem, Arc, head, guess, route_cost}
+use Rattle.optimality.specs.Keys.{within}
+use Rattle.optimality.specs.Search.{mark_in}
+use Rattle.optimality.specs.Published.{amount_of}
+use Rattle.search.specs.declared.running.Bounds.{Bounds}
+use Rattle.search.specs.Calls.{begun, unfit, step, bounds, unfinished, turned_down, search_fault}
+
+-- Lists of calls ---------------------------------------------------------------------------------
+
+-- Forward or Backward, Bounds, or Finish
+pub data Call : Type 0 where
+  step_by_side : Side → Call
+  ask_bounds : Call
+  try_finish : Call
+
+-- one for a step that was accepted
+abbrev pub one_if : Result (Unit {0}) Fault → ℕ
+one_if (Ok _) = 1
+one_if (Err _) = 0
+
+module _ {C L S : Type 0} (p : Problem C L S) where
+  -- what a call leaves; Bounds writes nothing, nor does a Finish that is turned down
+  abbrev pub left : State C L S → Call → State C L S
+  left st (step_by_side side) = (step p st side).state
+  left st ask_bounds = st
+  left st try_finish = st
+
+  -- a Finish that is accepted ends the list of calls
+  abbrev pub GoesOn : State C L S → Call → Type 0
+  GoesOn st (step_by_side side) = Unit {0}
+  GoesOn st ask_bounds = Unit {0}
+  GoesOn st try_finish = is_some (unfinished p st) ≡ true
+
+  -- the calls, one after the other, lead to the last state
+  abbrev pub Leads : State C L S → List Call → State C L S → Type 0
+  Leads st [] last = st ≡ last
+  Leads st (c ∷ cs) last = GoesOn st c × Leads (left st c) cs last
+
+  -- how many of the calls are steps that were accepted
+  abbrev pub accepted_by : State C L S → Call → ℕ
+  accepted_by st (step_by_side side) = one_if ((step p st side).answer)
+  accepted_by st ask_bounds = 0
+  accepted_by st try_finish = 0
+
+  abbrev pub accepted : State C L S → List Call → ℕ
+  accepted st [] = 0
+  accepted st (c ∷ cs) = accepted_by st c + accepted (left st c) cs
+
+  -- A search has its sheet to itself: Open accepted the sheet, and the calls led from what it left to this.
+  pub record Own (calls : List Call) (st : State C L S) : Type 0 where
+    pub sheet : List (Row C L S)
+    pub accepts : unfit p (length sheet) ≡ None
+    pub led : Leads (begun p sheet) calls st
+
+-- Taken stations ---------------------------------------------------------------------------------
+
+-- a side has closed the station
+abbrev pub Closed : {C L S : Type 0} → State C L S → Side → ℕ → Type 0
+Closed st side u = is_closed (mark_in side (slice_get st.rows u)) ≡ true
+
+module _ {C L S : Type 0} (p : Problem C L S) where
+  -- the call takes the station for the side: it closes it
+  pub record Takes (st : State C L S) (c : Call) (side : Side) (u : ℕ) : Type 0 where
+    pub before : Closed st side u → ⊥
+    pub after : Closed (left p st c) side u
+
+  -- one of the calls takes the station for the side
+  abbrev pub TakenBy : State C L S → List Call → Side → ℕ → Type 0
+  TakenBy st [] side u = ⊥
+  TakenBy st (c ∷ cs) side u = Takes st c side u ⊎ TakenBy (left p st c) cs side u
+
+  -- what one call takes, no later one takes, for either side
+  abbrev pub NoneTwice : State C L S → List Call → Type 0
+  NoneTwice st [] = Unit {0}
+  NoneTwice st (c ∷ cs) = ((a b : Side) (u : ℕ) → Takes st c a u → TakenBy (left p st c) cs b u → ⊥) × NoneTwice (left p st c) cs
+
+  -- Routes ---------------------------------------------------------------------------------------
+
+  abbrev pub NoRoute : Type 0
+  NoRoute = (ks : List ℕ) → Route p.net ks → ⊥
+
+  -- some route costs as much
+  abbrev pub Reachable : L → Type 0
+  Reachable a = (ks : List ℕ) × Route p.net ks × (route_cost p ks ≡ a)
+
+  -- every route costs at least as much
+  abbrev pub Least : L → Type 0
+  Least a = (ks : List ℕ) → Route p.net ks → Le p.kind.ops a (route_cost p ks)
+
+  -- a bound is at most another; what is absent counts as above every amount
+  abbrev pub AtMost : Option L → Option L → Type 0
+  AtMost x y = within p.kind x y ≡ true
+
+  -- twice every route's cost is at least this; where it is absent, there is no route
+  abbrev pub Floor : Option L → Type 0
+  Floor x = (ks : List ℕ) → Route p.net ks → AtMost x (Some (p.kind.ops.plus (route_cost p ks) (route_cost p ks)))
+
+  -- Estimates ------------------------------------------------------------------------------------
+
+  -- the side's estimate falls by more than its amount along section k, which is open
+  abbrev pub Breaks : ℕ → Side → Type 0
+  Breaks k side = (s : Section S) × Arc p k s × (Le p.kind.ops (p.kind.ops.minus (guess p side (tail side s)) (guess p side (head side s))) (p.kind.worth s.amount) → ⊥)
+
+  -- the first section along which one does, and the first side, forward before backward
+  pub record FirstBreak (k : ℕ) (side : Side) : Type 0 where
+    pub breaks : Breaks k side
+    pub earlier : (j : ℕ) (s : Side) → j < k → Breaks j s → ⊥
+    pub forward_first : side ≡ Backward → Breaks k Forward → ⊥
+
+  -- What is claimed --------------------------------------------------------------------------------
+
+  -- the step is accepted, and takes one station, which neither side had closed
+  pub record StepAccepted (st : State C L S) (side : Side) : Type 0 where
+    pub answer : (step p st side).answer ≡ Ok tt
+    pub station : ℕ
+    pub within : station < p.net.stations
+    pub open_still : (s : Side) → Closed st s station → ⊥
+    pub takes : Takes st (step_by_side side) side station
+    pub nothing_else : (s : Side) (u : ℕ) → Takes st (step_by_side side) s u → (s ≡ side) × (u ≡ station)
+
+  -- the search is ended, and turns the step down
+  pub record StepRefused (st : State C L S) (side : Side) : Type 0 where
+    pub ended : unfinished p st ≡ None
+    pub answer : step p st side ≡ turned_down p st (search_fault (Ended st.taken))
+
+  pub record Sound (calls : List Call) (st : State C L S) (own : Own p calls st) : Type 0 where
+    -- Bounds is answered: twice every route's cost is at least the floor, and some route costs the ceiling
+    pub answered : (b : Bounds L) × (bounds p st ≡ Ok b)
+    pub floor : (b : Bounds L) → bounds p st ≡ Ok b → Floor b.floor
+    pub ceiling : (b : Bounds L) (a : L) (m : ℕ) → bounds p st ≡ Ok b → b.ceiling ≡ Met a m → Reachable a
+    -- whatever calls come later, the floor does not fall, and the ceiling does not rise
+    pub rising :
+        (more : List Call) (last : State C L S) (b d : Bounds L)
+        → Leads p st more last → bounds p st ≡ Ok b → bounds p last ≡ Ok d
+        → AtMost b.floor d.floor × AtMost (amount_of d.ceiling) (amount_of b.ceiling)
+    -- where Finish would be accepted: no ceiling just if no route; and no route costs less than the ceiling
+    pub none : unfinished p st ≡ None → (st.ceiling ≡ Absent) ↔ NoRoute
+    pub least : (a : L) (m : ℕ) → unfinished p st ≡ None → st.ceiling ≡ Met a m → Reachable a × Least a
+    -- no station is taken twice, both ends together
+    pub none_twice : NoneTwice (begun p own.sheet) calls
+    -- the taken count is that of the accepted steps, and stays below the number of stations
+    pub counted : st.taken ≡ accepted p (begun p own.sheet) calls
+    pub few : st.taken < p.net.stations
+    -- only an ended search turns a step down
+    pub steps : (side : Side) → StepAccepted st side ⊎ StepRefused st side
