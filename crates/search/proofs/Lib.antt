@@ -5,3 +5,4 @@ pub mod Opened
 pub mod Owned
 pub mod Runs
 pub mod Consistency
+pub mod Main
