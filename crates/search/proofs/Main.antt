@@ -17,7 +17,7 @@ use Rattle.optimality.proofs.Invariant.{Stands}
 use Rattle.optimality.proofs.Lower.{floor_bounds, ended_bounds, ceiling_route}
 use Rattle.search.specs.declared.running.Bounds.{Bounds}
 use Rattle.search.specs.Calls.{begun, own, short, foreign, step, bounds, unfinished, unfit, turned_down, search_fault}
-use Rattle.search.specs.Claims.{Call, step_by_side, Leads, Own, Closed, Takes, Reachable, Least, NoRoute, AtMost, Floor, StepAccepted, StepRefused, Sound}
+use Rattle.search.specs.Claims.{Call, step_by_side, left, GoesOn, StillSound, Leads, Own, Closed, Takes, Reachable, Least, NoRoute, AtMost, Floor, StepAccepted, StepRefused, Sound}
 use Rattle.search.proofs.Consistency.{unfit_room, unfit_consistent}
 use Rattle.search.proofs.Runs.{Good, Took, begun_good, not_short, outcome, was_open, is_taken, only, through, none_twice}
 
@@ -117,3 +117,16 @@ sound p fair calls st own =
       few = good.stands.few;
       steps = steps_hold p fair con st good;
     }
+
+-- One call more ----------------------------------------------------------------------------------
+
+module _ {C L S : Type 0} (p : Problem C L S) where
+  leads_more : (cs : List Call) (c : Call) (st last : State C L S) → Leads p st cs last → GoesOn p last c → Leads p st (cs ++ (c ∷ [])) (left p last c)
+  leads_more [] c st last led on = (subst (λ x. GoesOn p x c) (sym led) on, ap (λ x. left p x c) led)
+  leads_more (d ∷ cs) c st last led on = (led.0, leads_more cs c (left p st d) last led.1 on)
+
+  pub own_more : (calls : List Call) (c : Call) (st : State C L S) → Own p calls st → GoesOn p st c → Own p (calls ++ (c ∷ [])) (left p st c)
+  own_more calls c st own on = record { sheet = own.sheet; accepts = own.accepts; led = leads_more calls c (begun p own.sheet) st own.led on }
+
+  pub still : Fair p → (calls : List Call) (c : Call) (st : State C L S) → Own p calls st → GoesOn p st c → StillSound p (calls ++ (c ∷ [])) (left p st c)
+  still fair calls c st own on = let more = own_more calls c st own on in record { own = more; sound = sound p fair (calls ++ (c ∷ [])) (left p st c) more }

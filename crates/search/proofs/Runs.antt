@@ -66,10 +66,10 @@ module _ {C L S : Type 0} (p : Problem C L S) (fair : Fair p) where
             front_taken = r;
             taken = t;
             is =
-              ap (λ b. cond b (turned_down p st (foreign p st)) (step_by p st side (next p st side))) not_short
-              ∙ ap (λ b. step_by p st side (cond b None (front p (own p st) side))) h
-              ∙ ap (step_by p st side) here
-              ∙ ap (stepped_to p st) t.taken;
+                ap (λ b. cond b (turned_down p st (foreign p st)) (step_by p st side (next p st side))) not_short
+                ∙ ap (λ b. step_by p st side (cond b None (front p (own p st) side))) h
+                ∙ ap (step_by p st side) here
+                ∙ ap (stepped_to p st) t.taken;
           }
 
       -- a step is turned down since the search is ended, or it takes a front

@@ -8,25 +8,30 @@
 --   and every route costs at least as much;
 -- * no station is taken twice, both ends together; the taken count is that of the accepted steps, and below the number of
 --   stations; and only an ended search turns a step down.
-use Rattle.std.specs.Prelude.{◌≡◌, ℕ, ◌+◌, ◌<◌, true, List, [], ◌∷◌, length, is_some, Some, None, Option, Ok, Err, Result, ◌⊎◌, ◌↔◌}
+use Rattle.std.specs.Prelude.{◌≡◌, ℕ, ◌+◌, ◌<◌, true, List, [], ◌∷◌, ◌++◌, length, is_some, Some, None, Option, Ok, Err, Result, ◌⊎◌, ◌↔◌}
 use Rattle.std.specs.List.{slice_get}
 use Rattle.amounts.specs.Amount.{Le}
 use Rattle.faults.specs.declared.Side.{Side}
 use Rattle.faults.specs.declared.Side.TheVariants.{Forward, Backward}
 use Rattle.faults.specs.declared.Fault.{Fault}
-use Rattle.faults.specs.declared.Refusal.TheVariants.{Ended}
+use Rattle.faults.specs.declared.Refusal.TheVariants.{Ended, Inconsistent}
 use Rattle.networks.specs.declared.section.Section.{Section}
 use Rattle.networks.specs.Nets.{tail}
 use Rattle.networks.specs.Routes.{Route}
 use Rattle.optimality.specs.declared.sheet.Row.{Row}
 use Rattle.optimality.specs.declared.sheet.Ceiling.TheVariants.{Absent, Met}
 use Rattle.optimality.specs.Sheets.{is_closed, State}
-use Rattle.optimality.specs.Problems.{Problem, Arc, head, guess, route_cost}
+use Rattle.optimality.specs.Problems.{Problem, Arc, Consistent, head, guess, route_cost}
 use Rattle.optimality.specs.Keys.{within}
 use Rattle.optimality.specs.Search.{mark_in}
 use Rattle.optimality.specs.Published.{amount_of}
 use Rattle.search.specs.declared.running.Bounds.{Bounds}
-use Rattle.search.specs.Calls.{begun, unfit, step, bounds, unfinished, turned_down, search_fault}
+use Rattle.search.specs.declared.running.Running.{Running}
+use Rattle.search.specs.declared.running.Unopened.{Unopened}
+use Rattle.search.specs.declared.running.Finished.{Finished}
+use Rattle.search.specs.declared.running.Finished.TheVariants as finished
+use Rattle.search.specs.declared.running.Unfinished.{Unfinished}
+use Rattle.search.specs.Calls.{standing, begun, unfit, step, bounds, unfinished, turned_down, search_fault}
 
 -- Lists of calls ---------------------------------------------------------------------------------
 
@@ -166,3 +171,35 @@ module _ {C L S : Type 0} (p : Problem C L S) where
     pub few : st.taken < p.net.stations
     -- only an ended search turns a step down
     pub steps : (side : Side) → StepAccepted st side ⊎ StepRefused st side
+
+-- What the contract of each call says of it ------------------------------------------------------
+
+module _ {C L S : Type 0} (p : Problem C L S) where
+  -- after one more call the search has its sheet to itself still, and all is as claimed
+  pub record StillSound (calls : List Call) (st : State C L S) : Type 0 where
+    pub own : Own p calls st
+    pub sound : Sound p calls st own
+
+  module _ {N E : Type 0} where
+    -- Accepted, the estimates are consistent, and the search has its sheet to itself. Turned down for the estimates, they
+    -- break first where the fault says.
+    abbrev pub OpenSound : Result (Running C N E L S) (Unopened N E) → List (Row C L S) → Type 0
+    OpenSound (Ok s) sheet = Consistent p × StillSound [] (standing s sheet)
+    OpenSound (Err back) sheet = (k : ℕ) (side : Side) → back.fault ≡ search_fault (Inconsistent k side) → FirstBreak p k side
+
+    -- An accepted Finish answers that there is no route exactly if there is none; else its cost is that of a route, and
+    -- every route costs at least as much. Turned down, the search goes on.
+    abbrev pub FinishSound : List Call → State C L S → Result (Finished C N E L S) (Unfinished C N E L S) → Type 0
+    FinishSound calls st (Ok (finished.NoRoute n)) = NoRoute p
+    FinishSound calls st (Ok (finished.Found f)) = Reachable p f.cost × Least p f.cost
+    FinishSound calls st (Err back) = StillSound (calls ++ (try_finish ∷ [])) st
+
+  -- a step is turned down only where the search is ended
+  pub record StepSound (calls : List Call) (side : Side) (before after : State C L S) (answer : Result (Unit {0}) Fault) : Type 0 where
+    pub now : StillSound (calls ++ (step_by_side side ∷ [])) after
+    pub only_ended : (f : Fault) → answer ≡ Err f → unfinished p before ≡ None
+
+  -- the floor and the ceiling that Bounds answers
+  abbrev pub BoundsSound : List Call → State C L S → Result (Bounds L) Fault → Type 0
+  BoundsSound calls st (Ok b) = Floor p b.floor × ((a : L) (m : ℕ) → b.ceiling ≡ Met a m → Reachable p a) × StillSound (calls ++ (ask_bounds ∷ [])) st
+  BoundsSound calls st (Err f) = ⊥

@@ -1,9 +1,12 @@
 //! A search: running, found, or without a route.
-ghost use Rattle.std.specs.Prelude.{◌≡◌, ◌^◌, ◌<◌, ◌≤◌, length, Some, true, cond, None, is_some, option_map, IfSome};
+ghost use Rattle.std.specs.Prelude.{◌≡◌, ◌^◌, ◌<◌, ◌≤◌, length, List, Some, true, cond, None, is_some, option_map, IfSome};
 ghost use Rattle.optimality.specs.Search.{front, floor, ended, spread, closing, after};
 ghost use Rattle.optimality.specs.Keys.{smaller};
 ghost use Rattle.networks.specs.Nets.{InRange, starters};
 ghost use Rattle.faults.specs.declared.Refusal.TheVariants.{ForeignSheet};
+ghost use Rattle.faults.specs.declared.Side.TheVariants.{Forward, Backward};
+ghost use Rattle.optimality.specs.Problems.{Fair};
+ghost use Rattle.search.specs.Claims.{Call, Own, OpenSound, StepSound, BoundsSound, FinishSound};
 ghost use Rattle.search.specs.Calls.{posed, problem, standing, Kept, Ready, opening, step, bounds, unfinished, finish, search_fault};
 
 use crate::dry::too_large;
@@ -262,6 +265,65 @@ impl<C: Cost, N: Network<C>, E: Estimates<C>> Running<C, N, E> {
                 taken,
             }),
         })
+    }
+}
+
+/// Asks network and estimates for what they promise.
+fn promised<C: Cost, N: Network<C>, E: Estimates<C>>(net: &N, estimates: &E)
+    ensures { Fair (posed C.Cost N.Network E.Estimates net.now estimates.now) }
+{
+    net.stations();
+    estimates.count();
+}
+
+impl<C: Cost, N: Network<C>, E: Estimates<C>> Running<C, N, E> {
+    /// Opens a search over a sheet: the launcher is open forward, and the trap backward. Turned down, it gives network and
+    /// estimates back, and writes nothing.
+    // The estimates are consistent then; else the fault names the first section that breaks them, forward side first.
+    pub fn open(net: N, estimates: E, sheet: &mut [Row<C>]) -> Result<Self, Unopened<N, E>>
+        ensures exact { record { answer = result; sheet = sheet.new } ≡ opening (posed C.Cost N.Network E.Estimates net estimates) net estimates sheet.old }
+        ensures sound { OpenSound (posed C.Cost N.Network E.Estimates net estimates) result sheet.new }
+    {
+        promised::<C, N, E>(&net, &estimates);
+        Running::begin(net, estimates, sheet)
+    }
+
+    /// Takes the open station of least forward key, and goes along the sections that leave it.
+    pub fn forward(&mut self, sheet: &mut [Row<C>]) -> Result<(), Fault>
+        ensures exact { record { answer = result; state = standing self.new sheet.new } ≡ step (problem C.Cost N.Network E.Estimates self.old) (standing self.old sheet.old) Forward }
+        ensures kept { Kept self.old self.new }
+        ensures sound { (calls : List Call) → Own (problem C.Cost N.Network E.Estimates self.old) calls (standing self.old sheet.old) → StepSound (problem C.Cost N.Network E.Estimates self.old) calls Forward (standing self.old sheet.old) (standing self.new sheet.new) result }
+    {
+        promised::<C, N, E>(&self.net, &self.estimates);
+        self.step(sheet, Side::Forward)
+    }
+
+    /// Takes the open station of least backward key, and goes along the sections that enter it.
+    pub fn backward(&mut self, sheet: &mut [Row<C>]) -> Result<(), Fault>
+        ensures exact { record { answer = result; state = standing self.new sheet.new } ≡ step (problem C.Cost N.Network E.Estimates self.old) (standing self.old sheet.old) Backward }
+        ensures kept { Kept self.old self.new }
+        ensures sound { (calls : List Call) → Own (problem C.Cost N.Network E.Estimates self.old) calls (standing self.old sheet.old) → StepSound (problem C.Cost N.Network E.Estimates self.old) calls Backward (standing self.old sheet.old) (standing self.new sheet.new) result }
+    {
+        promised::<C, N, E>(&self.net, &self.estimates);
+        self.step(sheet, Side::Backward)
+    }
+
+    /// What is known of the least cost.
+    pub fn bounds(&self, sheet: &[Row<C>]) -> Result<Bounds<C::Label>, Fault>
+        ensures exact { result ≡ bounds (problem C.Cost N.Network E.Estimates self.now) (standing self.now sheet.now) }
+        ensures sound { (calls : List Call) → Own (problem C.Cost N.Network E.Estimates self.now) calls (standing self.now sheet.now) → BoundsSound (problem C.Cost N.Network E.Estimates self.now) calls (standing self.now sheet.now) result }
+    {
+        promised::<C, N, E>(&self.net, &self.estimates);
+        self.known(sheet)
+    }
+
+    /// Ends a search: it found a route, or there is none. Turned down, it gives the search back.
+    pub fn finish(self, sheet: &[Row<C>]) -> Result<Finished<C, N, E>, Unfinished<C, N, E>>
+        ensures exact { result ≡ finish (problem C.Cost N.Network E.Estimates self) self sheet.now }
+        ensures sound { (calls : List Call) → Own (problem C.Cost N.Network E.Estimates self) calls (standing self sheet.now) → FinishSound (problem C.Cost N.Network E.Estimates self) calls (standing self sheet.now) result }
+    {
+        promised::<C, N, E>(&self.net, &self.estimates);
+        self.conclude(sheet)
     }
 }
 
