@@ -44,7 +44,7 @@ module _ {C L S : Type 0} (p : Problem C L S) (laws : Laws p.kind.ops) where
   below_trans (Some a) (Some b) (Some c) h k = laws.le_trans a b c h k
 
   -- where x is not at most y, y is at most x
-  below_other : (x y : Option L) → within p.kind x y ≡ false → Below p y x
+  pub below_other : (x y : Option L) → within p.kind x y ≡ false → Below p y x
   below_other x None e = absurd (true≢false e)
   below_other None (Some b) e = refl
   below_other (Some a) (Some b) e = le_of_not laws a b e

@@ -18,3 +18,7 @@ pub mod Opening
 pub mod Running
 pub mod Taking
 pub mod Ranges
+pub mod Better
+pub mod Progress
+pub mod Written
+pub mod Rule

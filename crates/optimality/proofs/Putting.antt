@@ -63,6 +63,23 @@ module _ {C L S : Type 0} where
   pub length-put : (rows : List (Row C L S)) (side : Side) (v : ℕ) (m : Mark L) → length (put rows side v m) ≡ length rows
   length-put rows side v m = length-set rows v _
 
+-- What is written, before it is read -----------------------------------------------------------
+
+module _ {C L S : Type 0} (rows : List (Row C L S)) (side : Side) (v : ℕ) (m : Mark L) where
+  -- what is written at any other station is as it was
+  pub written_elsewhere : (s : Side) (i : ℕ) → (i ≡ v → ⊥) → mark_in s (slice_get (put rows side v m) i) ≡ mark_in s (slice_get rows i)
+  written_elsewhere s i ne = ap (mark_in s) (get_set_other rows v i _ ne)
+
+  -- at the station itself the other side's mark is as it was
+  written_there : v < length rows → mark_in (opposite side) (slice_get (put rows side v m) v) ≡ mark_in (opposite side) (slice_get rows v)
+  written_there inside =
+      ap (mark_in (opposite side)) (get_set rows v _ inside) ∙ mark_other side (Some m) (get_or rows v blank_row) ∙ sym (ap (mark_in (opposite side)) (slice_get-get_or rows v blank_row inside))
+
+  -- and so it is everywhere
+  pub written_beside : v < length rows → (i : ℕ) → mark_in (opposite side) (slice_get (put rows side v m) i) ≡ mark_in (opposite side) (slice_get rows i)
+  written_beside inside i =
+      ⊎_elim (λ e. subst (λ j. mark_in (opposite side) (slice_get (put rows side v m) j) ≡ mark_in (opposite side) (slice_get rows j)) (sym e) (written_there inside)) (written_elsewhere (opposite side) i) (cases_eq i v)
+
 module _ {C L S : Type 0} (c : cost.Ghosts C L S) where
   -- a label that a row holds is read as it is
   pub reads : (m : Mark L) → c.ops.size m.label < 2 ^ 44 → seen c m ≡ m
@@ -90,7 +107,7 @@ module _ {C L S : Type 0} (c : cost.Ghosts C L S) (rows : List (Row C L S)) (v :
     at_v s = ap (λ r. option_map (seen c) (mark_in s r)) (get_set rows v (with_mark side (Some m) row) inside)
 
     not_at_v : (s : Side) (i : ℕ) → (i ≡ v → ⊥) → mark_at c (put rows side v m) s i ≡ mark_at c rows s i
-    not_at_v s i ne = ap (λ r. option_map (seen c) (mark_in s r)) (get_set_other rows v i _ ne)
+    not_at_v s i ne = ap (option_map (seen c)) (written_elsewhere rows side v m s i ne)
 
     -- the side has the mark at v, and what it had elsewhere
     pub put_puts : c.ops.size m.label < 2 ^ 44 → Puts (mark_at c rows side) v m (mark_at c (put rows side v m) side)
@@ -101,10 +118,7 @@ module _ {C L S : Type 0} (c : cost.Ghosts C L S) (rows : List (Row C L S)) (v :
 
     -- and the other side's marks are as they were
     pub put_other : mark_at c (put rows side v m) (opposite side) ≡ mark_at c rows (opposite side)
-    put_other =
-        fun_ext λ i.
-        ⊎_elim (λ e. subst (λ j. mark_at c (put rows side v m) (opposite side) j ≡ mark_at c rows (opposite side) j) (sym e) (at_v (opposite side) ∙ ap (option_map (seen c)) (mark_other side (Some m) row) ∙ sym (mark_there (opposite side)))) (not_at_v (opposite side) i)
-        (cases_eq i v)
+    put_other = fun_ext λ i. ap (option_map (seen c)) (written_beside rows side v m inside i)
 
     -- what counts of row v, before and after
     counts : (a b o : Bool) → is_closed (mark_at c rows side v) ≡ a → m.closed ≡ b → is_closed (mark_at c rows (opposite side) v) ≡ o → count_by row_closed (put rows side v m) + cond (a || o) 1 0 ≡ count_by row_closed rows + cond (b || o) 1 0
