@@ -11,7 +11,7 @@ use Rattle.optimality.specs.Sheets.{is_closed, opposite, State}
 use Rattle.optimality.specs.Problems.{Problem, Fair, head}
 use Rattle.optimality.specs.Keys.{opened_mark, fits_row, seen, sum, improves}
 use Rattle.optimality.specs.Search.{mark_at, Spread, reach, along, spread, closing, after, front, taking}
-use Rattle.optimality.specs.Published.{IsNext, Candidate, Relabelled, Stays, Meets, Lowered, Takes}
+use Rattle.optimality.specs.Published.{IsNext, Candidate, Relabelled, Stays, Meets, Lowered, TakenByRule}
 use Rattle.optimality.proofs.Having.{on_at}
 use Rattle.optimality.proofs.Fronts.{seen_small, front_next}
 use Rattle.optimality.proofs.Better.{under, worse_open, open_most}
@@ -153,7 +153,7 @@ module _ {C L S : Type 0} (p : Problem C L S) (fair : Fair p) (side : Side) (f :
         }
 
     -- so the front is taken by the rule
-    pub ruled : IsNext p before.rows side f → Takes p side f before end
+    pub ruled : IsNext p before.rows side f → TakenByRule p side f before end
     ruled next =
         record {
           next = next;
@@ -170,7 +170,7 @@ module _ {C L S : Type 0} (p : Problem C L S) (fair : Fair p) (side : Side) (f :
         }
 
 -- A side's first front is taken by the rule, on any sheet of one row a station.
-pub takes_rule : {C L S : Type 0} (p : Problem C L S) (fair : Fair p) (side : Side) (f : Front L) (st st' : State C L S) → length st.rows ≡ p.net.stations → front p st side ≡ Some f → taking p side f st ≡ Some st' → Takes p side f st st'
+pub takes_rule : {C L S : Type 0} (p : Problem C L S) (fair : Fair p) (side : Side) (f : Front L) (st st' : State C L S) → length st.rows ≡ p.net.stations → front p st side ≡ Some f → taking p side f st ≡ Some st' → TakenByRule p side f st st'
 takes_rule {C} {L} {S} p fair side f st st' long first e = to_take (nat_lt (st.taken + 1) p.net.stations) e
   where
     next : IsNext p st.rows side f
@@ -180,13 +180,13 @@ takes_rule {C} {L} {S} p fair side f st st' long first e = to_take (nat_lt (st.t
     begun =
         none_yet p side f st fair (omega (arith, next.within)) (on_at (mark_at p.kind st.rows side f.station) _ _ next.marked (seen_small p.kind fair.laws st.rows side f.station))
 
-    to_spread : (x : Option (Spread C L S)) → spread p.kind p.net side f.label (starters side p.net f.station) (closing side f st) ≡ x → option_map (after st) x ≡ Some st' → Takes p side f st st'
+    to_spread : (x : Option (Spread C L S)) → spread p.kind p.net side f.label (starters side p.net f.station) (closing side f st) ≡ x → option_map (after st) x ≡ Some st' → TakenByRule p side f st st'
     to_spread None is h = absurd (none-some _ h)
     to_spread (Some sp) is h =
         let w = through p fair side f st long p.net.sections 0 (λ i. ap (slice_get p.net.sections) (sym (zero-add i))) (closing side f st) sp begun is in
         let same : after st sp ≡ st' = cc in
-        subst (Takes p side f st) same (ruled p fair side f st long (0 + length p.net.sections) sp w (λ v k a c. omega (arith, slice_get_within p.net.sections k c.section c.arc.0)) next)
+        subst (TakenByRule p side f st) same (ruled p fair side f st long (0 + length p.net.sections) sp w (λ v k a c. omega (arith, slice_get_within p.net.sections k c.section c.arc.0)) next)
 
-    to_take : (b : Bool) → cond b (option_map (after st) (spread p.kind p.net side f.label (starters side p.net f.station) (closing side f st))) None ≡ Some st' → Takes p side f st st'
+    to_take : (b : Bool) → cond b (option_map (after st) (spread p.kind p.net side f.label (starters side p.net f.station) (closing side f st))) None ≡ Some st' → TakenByRule p side f st st'
     to_take false h = absurd (none-some _ h)
     to_take true h = to_spread (spread p.kind p.net side f.label (starters side p.net f.station) (closing side f st)) refl h

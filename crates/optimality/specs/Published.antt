@@ -71,7 +71,7 @@ module _ {C L S : Type 0} (p : Problem C L S) (side : Side) (f : Front L) where
       pub least : (u j : ℕ) (b : L) → Meets u j b → Le p.kind.ops a b × (b ≡ a → k ≤ j)
 
     -- What taking a side's front changes, and nothing else.
-    pub record Takes : Type 0 where
+    pub record TakenByRule : Type 0 where
       pub next : IsNext p before.rows side f
       pub taken : after.taken ≡ before.taken + 1
       pub rows : length after.rows ≡ length before.rows

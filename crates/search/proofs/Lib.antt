@@ -6,3 +6,5 @@ pub mod Owned
 pub mod Runs
 pub mod Consistency
 pub mod Main
+pub mod Ruling
+pub mod Public

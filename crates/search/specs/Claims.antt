@@ -8,7 +8,7 @@
 --   and every route costs at least as much;
 -- * no station is taken twice, both ends together; the taken count is that of the accepted steps, and below the number of
 --   stations; and only an ended search turns a step down.
-use Rattle.std.specs.Prelude.{◌≡◌, ℕ, ◌+◌, ◌<◌, true, List, [], ◌∷◌, ◌++◌, length, is_some, Some, None, Option, Ok, Err, Result, ◌⊎◌, ◌↔◌}
+use Rattle.std.specs.Prelude.{◌≡◌, ℕ, ◌+◌, ◌<◌, true, List, [], ◌∷◌, ◌++◌, length, drop, is_some, Some, None, Option, Ok, Err, Result, ◌⊎◌, ◌↔◌}
 use Rattle.std.specs.List.{slice_get}
 use Rattle.amounts.specs.Amount.{Le}
 use Rattle.faults.specs.declared.Side.{Side}
@@ -19,19 +19,20 @@ use Rattle.networks.specs.declared.section.Section.{Section}
 use Rattle.networks.specs.Nets.{tail}
 use Rattle.networks.specs.Routes.{Route}
 use Rattle.optimality.specs.declared.sheet.Row.{Row}
+use Rattle.optimality.specs.declared.sheet.Front.{Front}
 use Rattle.optimality.specs.declared.sheet.Ceiling.TheVariants.{Absent, Met}
 use Rattle.optimality.specs.Sheets.{is_closed, State}
 use Rattle.optimality.specs.Problems.{Problem, Arc, Consistent, head, guess, route_cost}
 use Rattle.optimality.specs.Keys.{within}
 use Rattle.optimality.specs.Search.{mark_in}
-use Rattle.optimality.specs.Published.{amount_of}
+use Rattle.optimality.specs.Published.{amount_of, TakenByRule}
 use Rattle.search.specs.declared.running.Bounds.{Bounds}
 use Rattle.search.specs.declared.running.Running.{Running}
 use Rattle.search.specs.declared.running.Unopened.{Unopened}
 use Rattle.search.specs.declared.running.Finished.{Finished}
 use Rattle.search.specs.declared.running.Finished.TheVariants as finished
 use Rattle.search.specs.declared.running.Unfinished.{Unfinished}
-use Rattle.search.specs.Calls.{standing, begun, unfit, step, bounds, unfinished, turned_down, search_fault}
+use Rattle.search.specs.Calls.{standing, begun, unfit, own, step, bounds, unfinished, turned_down, search_fault}
 
 -- Lists of calls ---------------------------------------------------------------------------------
 
@@ -193,6 +194,12 @@ module _ {C L S : Type 0} (p : Problem C L S) where
     FinishSound calls st (Ok (finished.NoRoute n)) = NoRoute p
     FinishSound calls st (Ok (finished.Found f)) = Reachable p f.cost × Least p f.cost
     FinishSound calls st (Err back) = StillSound (calls ++ (try_finish ∷ [])) st
+
+  -- An accepted step takes the side's front by the rule, on the rows of the stations; those past them stay.
+  pub record StepRule (side : Side) (before after : State C L S) : Type 0 where
+    pub taken_front : Front L
+    pub rule : TakenByRule p side taken_front (own p before) (own p after)
+    pub past : drop p.net.stations after.rows ≡ drop p.net.stations before.rows
 
   -- a step is turned down only where the search is ended
   pub record StepSound (calls : List Call) (side : Side) (before after : State C L S) (answer : Result (Unit {0}) Fault) : Type 0 where

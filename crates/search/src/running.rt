@@ -1,12 +1,12 @@
 //! A search: running, found, or without a route.
-ghost use Rattle.std.specs.Prelude.{◌≡◌, ◌^◌, ◌<◌, ◌≤◌, length, List, Some, true, cond, None, is_some, option_map, IfSome};
+ghost use Rattle.std.specs.Prelude.{◌≡◌, ◌^◌, ◌<◌, ◌≤◌, length, List, Some, true, cond, None, is_some, option_map, IfSome, OnOk};
 ghost use Rattle.optimality.specs.Search.{front, floor, ended, spread, closing, after};
 ghost use Rattle.optimality.specs.Keys.{smaller};
 ghost use Rattle.networks.specs.Nets.{InRange, starters};
 ghost use Rattle.faults.specs.declared.Refusal.TheVariants.{ForeignSheet};
 ghost use Rattle.faults.specs.declared.Side.TheVariants.{Forward, Backward};
 ghost use Rattle.optimality.specs.Problems.{Fair};
-ghost use Rattle.search.specs.Claims.{Call, Own, OpenSound, StepSound, BoundsSound, FinishSound};
+ghost use Rattle.search.specs.Claims.{Call, Own, OpenSound, StepRule, StepSound, BoundsSound, FinishSound};
 ghost use Rattle.search.specs.Calls.{posed, problem, standing, Kept, Ready, opening, step, bounds, unfinished, finish, search_fault};
 
 use crate::dry::too_large;
@@ -288,24 +288,35 @@ impl<C: Cost, N: Network<C>, E: Estimates<C>> Running<C, N, E> {
         Running::begin(net, estimates, sheet)
     }
 
+    /// Takes the open station of least key on a side, and goes along its sections. Turned down, it changes nothing.
+    fn advance(&mut self, sheet: &mut [Row<C>], side: Side) -> Result<(), Fault>
+        ensures exact { record { answer = result; state = standing self.new sheet.new } ≡ step (problem C.Cost N.Network E.Estimates self.old) (standing self.old sheet.old) side }
+        ensures kept { Kept self.old self.new }
+        ensures rule { OnOk result (StepRule (problem C.Cost N.Network E.Estimates self.old) side (standing self.old sheet.old) (standing self.new sheet.new)) }
+        ensures sound { (calls : List Call) → Own (problem C.Cost N.Network E.Estimates self.old) calls (standing self.old sheet.old) → StepSound (problem C.Cost N.Network E.Estimates self.old) calls side (standing self.old sheet.old) (standing self.new sheet.new) result }
+    {
+        promised::<C, N, E>(&self.net, &self.estimates);
+        self.step(sheet, side)
+    }
+
     /// Takes the open station of least forward key, and goes along the sections that leave it.
     pub fn forward(&mut self, sheet: &mut [Row<C>]) -> Result<(), Fault>
         ensures exact { record { answer = result; state = standing self.new sheet.new } ≡ step (problem C.Cost N.Network E.Estimates self.old) (standing self.old sheet.old) Forward }
         ensures kept { Kept self.old self.new }
+        ensures rule { OnOk result (StepRule (problem C.Cost N.Network E.Estimates self.old) Forward (standing self.old sheet.old) (standing self.new sheet.new)) }
         ensures sound { (calls : List Call) → Own (problem C.Cost N.Network E.Estimates self.old) calls (standing self.old sheet.old) → StepSound (problem C.Cost N.Network E.Estimates self.old) calls Forward (standing self.old sheet.old) (standing self.new sheet.new) result }
     {
-        promised::<C, N, E>(&self.net, &self.estimates);
-        self.step(sheet, Side::Forward)
+        self.advance(sheet, Side::Forward)
     }
 
     /// Takes the open station of least backward key, and goes along the sections that enter it.
     pub fn backward(&mut self, sheet: &mut [Row<C>]) -> Result<(), Fault>
         ensures exact { record { answer = result; state = standing self.new sheet.new } ≡ step (problem C.Cost N.Network E.Estimates self.old) (standing self.old sheet.old) Backward }
         ensures kept { Kept self.old self.new }
+        ensures rule { OnOk result (StepRule (problem C.Cost N.Network E.Estimates self.old) Backward (standing self.old sheet.old) (standing self.new sheet.new)) }
         ensures sound { (calls : List Call) → Own (problem C.Cost N.Network E.Estimates self.old) calls (standing self.old sheet.old) → StepSound (problem C.Cost N.Network E.Estimates self.old) calls Backward (standing self.old sheet.old) (standing self.new sheet.new) result }
     {
-        promised::<C, N, E>(&self.net, &self.estimates);
-        self.step(sheet, Side::Backward)
+        self.advance(sheet, Side::Backward)
     }
 
     /// What is known of the least cost.
