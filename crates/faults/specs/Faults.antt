@@ -12,6 +12,10 @@ abbrev pub side_number : Side → ℕ
 side_number Forward = 1
 side_number Backward = 2
 
+abbrev pub opposite : Side → Side
+opposite Forward = Backward
+opposite Backward = Forward
+
 abbrev pub number_of : Refusal → ℕ
 number_of (PageEnds _) = 1
 number_of (UnexpectedKind _) = 2

@@ -2,7 +2,7 @@
 #![tactic(auto)]
 
 ghost use Rattle.std.specs.Prelude.{◌≡◌, [], ◌∷◌, Some};
-ghost use Rattle.faults.specs.Faults.{number_of, place_of, side_number, fault_of, network_fault, ranged_from, refused_line};
+ghost use Rattle.faults.specs.Faults.{number_of, place_of, side_number, opposite, fault_of, network_fault, ranged_from, refused_line};
 ghost use Rattle.faults.specs.declared.Refusal.TheVariants.{ParameterOutOfRange};
 
 use std::fmt;
@@ -15,6 +15,16 @@ pub enum Side {
 }
 
 impl Side {
+    /// The other end.
+    pub fn opposite(self) -> Side
+        ensures { result ≡ opposite self }
+    {
+        match self {
+            Side::Forward => Side::Backward,
+            Side::Backward => Side::Forward,
+        }
+    }
+
     /// 1 for forward, 2 for backward.
     pub fn number(self) -> u8
         ensures { result ≡ side_number self }

@@ -2,6 +2,7 @@
 use Rattle.std.proofs.Common.{◌≡◌, ℕ, ◌^◌, ◌<◌, true, false, true≢false, List, length, Some, None, Option, sym, refl, ap, ◌∙◌, add_comm, arith}
 use Rattle.std.proofs.lemmas.Bool.{cond_both}
 use Rattle.amounts.specs.Amount.{Laws, Le}
+use Rattle.faults.specs.Faults.{opposite}
 use Rattle.faults.specs.declared.Side.{Side}
 use Rattle.faults.specs.declared.Side.TheVariants.{Forward, Backward}
 use Rattle.optimality.specs.declared.sheet.Mark.{Mark}
@@ -9,7 +10,7 @@ use Rattle.optimality.specs.declared.sheet.Row.{Row}
 use Rattle.optimality.specs.declared.sheet.Front.{Front}
 use Rattle.optimality.specs.declared.sheet.Ceiling.{Ceiling}
 use Rattle.optimality.specs.declared.sheet.Ceiling.TheVariants.{Absent, Met}
-use Rattle.optimality.specs.Sheets.{opposite, State}
+use Rattle.optimality.specs.Sheets.{State}
 use Rattle.optimality.specs.Problems.{Problem, Fair}
 use Rattle.optimality.specs.Keys.{sum, within, smaller, key_sum, twice}
 use Rattle.optimality.specs.Search.{mark_at, front, least_sum}

@@ -1,9 +1,10 @@
 -- A front's station is closed, and none of its sections gone through.
 use Rattle.std.proofs.Common.{◌≡◌, ◌+◌, ◌<◌, false, length, refl, ap, ◌∙◌, arith}
 use Rattle.std.specs.List.{count_by}
+use Rattle.faults.specs.Faults.{opposite}
 use Rattle.faults.specs.declared.Side.{Side}
 use Rattle.optimality.specs.declared.sheet.Front.{Front}
-use Rattle.optimality.specs.Sheets.{is_closed, opposite, State}
+use Rattle.optimality.specs.Sheets.{is_closed, State}
 use Rattle.optimality.specs.Problems.{Problem, Fair}
 use Rattle.optimality.specs.Search.{mark_at, closing}
 use Rattle.optimality.proofs.Having.{on_at}

@@ -3,11 +3,11 @@ use Rattle.std.proofs.Common.{◌≡◌, ℕ, ◌+◌, ◌^◌, ◌<◌, ◌≤�
 use Rattle.std.specs.List.{slice_get}
 use Rattle.amounts.specs.Amount.{Le}
 use Rattle.amounts.specs.declared.cost.Cost as cost
+use Rattle.faults.specs.Faults.{opposite}
 use Rattle.faults.specs.declared.Side.{Side}
 use Rattle.faults.specs.declared.Side.TheVariants.{Forward, Backward}
 use Rattle.networks.specs.declared.section.Section.{Section}
 use Rattle.networks.specs.Nets.{tail}
-use Rattle.optimality.specs.Sheets.{opposite}
 use Rattle.optimality.specs.Problems.{Problem, Fair, Consistent, Arc, head, guess}
 use Rattle.optimality.specs.Keys.{sum, difference, key}
 use Rattle.optimality.proofs.Group.{minus_plus, opposite_sum, drop_le, key_rises, key_half, key_pair}

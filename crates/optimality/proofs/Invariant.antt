@@ -2,6 +2,7 @@
 use Rattle.std.proofs.Common.{◌≡◌, ℕ, zero, suc, ◌+◌, ◌<◌, Bool, true, false, ◌||◌, List, [], ◌∷◌, length, Some, None, Option}
 use Rattle.std.specs.List.{count_by}
 use Rattle.amounts.specs.Amount.{Le}
+use Rattle.faults.specs.Faults.{opposite}
 use Rattle.faults.specs.declared.Side.{Side}
 use Rattle.faults.specs.declared.Side.TheVariants.{Forward, Backward}
 use Rattle.networks.specs.declared.section.Section.{Section}
@@ -10,7 +11,7 @@ use Rattle.optimality.specs.declared.sheet.Mark.{Mark}
 use Rattle.optimality.specs.declared.sheet.Row.{Row}
 use Rattle.optimality.specs.declared.sheet.Ceiling.{Ceiling}
 use Rattle.optimality.specs.declared.sheet.Front.{Front}
-use Rattle.optimality.specs.Sheets.{is_closed, opposite, State}
+use Rattle.optimality.specs.Sheets.{is_closed, State}
 use Rattle.optimality.specs.Problems.{Problem, start, head, guess, Arc}
 use Rattle.optimality.specs.Keys.{opened_mark}
 use Rattle.optimality.specs.Search.{mark_at}

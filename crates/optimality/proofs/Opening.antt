@@ -5,12 +5,13 @@ use Rattle.std.proofs.lemmas.Bool.{cond_both, cases_lt, or_from, eqb-true, eq-eq
 use Rattle.std.proofs.lemmas.List.FromFn.{length-map-range_with_len, get_or-map-range_with_len}
 use Rattle.std.proofs.lemmas.List.Sums.{sum_by-cons}
 use Rattle.std.proofs.lemmas.Option.{slice_get-get_or, slice_get_past}
+use Rattle.faults.specs.Faults.{opposite}
 use Rattle.faults.specs.declared.Side.{Side}
 use Rattle.faults.specs.declared.Side.TheVariants.{Forward, Backward}
 use Rattle.networks.specs.Nets.{tail}
 use Rattle.optimality.specs.declared.sheet.Mark.{Mark}
 use Rattle.optimality.specs.declared.sheet.Ceiling.TheVariants.{Absent, Met}
-use Rattle.optimality.specs.Sheets.{is_closed, opposite, mark_on, blank_row}
+use Rattle.optimality.specs.Sheets.{is_closed, mark_on, blank_row}
 use Rattle.optimality.specs.Problems.{Problem, Fair, start}
 use Rattle.optimality.specs.Keys.{opened_mark, first_mark, seen}
 use Rattle.optimality.specs.Search.{mark_in, mark_at, first_row, opened}

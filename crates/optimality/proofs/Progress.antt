@@ -1,11 +1,12 @@
 -- What taking a front changes: how far it has come once the sections below n are gone through.
 use Rattle.std.proofs.Common.{◌≡◌, ℕ, ◌+◌, ◌^◌, ◌<◌, ◌≤◌, true, false, length, Some, Option, ◌⊎◌, inl, inr, sym, refl, ap, ◌∙◌, true≢false, below_more, arith}
 use Rattle.std.specs.List.{slice_get}
+use Rattle.faults.specs.Faults.{opposite}
 use Rattle.faults.specs.declared.Side.{Side}
 use Rattle.optimality.specs.declared.sheet.Mark.{Mark}
 use Rattle.optimality.specs.declared.sheet.Front.{Front}
 use Rattle.optimality.specs.declared.sheet.Ceiling.TheVariants.{Met}
-use Rattle.optimality.specs.Sheets.{is_closed, opposite, State}
+use Rattle.optimality.specs.Sheets.{is_closed, State}
 use Rattle.optimality.specs.Problems.{Problem, Fair, head}
 use Rattle.optimality.specs.Keys.{opened_mark, sum, improves}
 use Rattle.optimality.specs.Search.{mark_in, mark_at, Spread, closing}

@@ -7,11 +7,12 @@ use Rattle.std.proofs.Math.Path.{fun_ext}
 use Rattle.std.proofs.lemmas.List.Sums.{sum_by-set, count_by-le-length}
 use Rattle.std.proofs.lemmas.Option.{slice_get-get_or}
 use Rattle.amounts.specs.declared.cost.Cost as cost
+use Rattle.faults.specs.Faults.{opposite}
 use Rattle.faults.specs.declared.Side.{Side}
 use Rattle.faults.specs.declared.Side.TheVariants.{Forward, Backward}
 use Rattle.optimality.specs.declared.sheet.Mark.{Mark}
 use Rattle.optimality.specs.declared.sheet.Row.{Row}
-use Rattle.optimality.specs.Sheets.{is_closed, opposite, mark_on, with_mark, blank_row, put}
+use Rattle.optimality.specs.Sheets.{is_closed, mark_on, with_mark, blank_row, put}
 use Rattle.optimality.specs.Keys.{seen}
 use Rattle.optimality.specs.Search.{mark_in, mark_at}
 use Rattle.optimality.proofs.Invariant.{Marks, row_closed}

@@ -1,8 +1,8 @@
 -- One text for both sides.
 use Rattle.std.proofs.Common.{Bool, true, false, true≢false, ◌≡◌, ℕ, suc, ◌+◌, ◌≤◌, refl, sym, ap, arith}
+use Rattle.faults.specs.Faults.{opposite}
 use Rattle.faults.specs.declared.Side.{Side}
 use Rattle.faults.specs.declared.Side.TheVariants.{Forward, Backward}
-use Rattle.optimality.specs.Sheets.{opposite}
 
 -- the other side's other side is the side itself
 pub opposite_twice : (side : Side) → opposite (opposite side) ≡ side

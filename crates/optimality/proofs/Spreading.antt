@@ -5,6 +5,7 @@ use Rattle.std.proofs.lemmas.Bool.{cond_both, and_parts, and_cases, not-true, no
 use Rattle.std.proofs.lemmas.Option.{none-some, same_Some}
 use Rattle.amounts.specs.Amount.{Le}
 use Rattle.amounts.specs.declared.cost.Cost as cost
+use Rattle.faults.specs.Faults.{opposite}
 use Rattle.faults.specs.declared.Side.{Side}
 use Rattle.networks.specs.declared.section.Section.{Section}
 use Rattle.networks.specs.Nets.{tail, starts, starters}
@@ -13,7 +14,7 @@ use Rattle.optimality.specs.declared.sheet.Mark.{Mark}
 use Rattle.optimality.specs.declared.sheet.Row.{Row}
 use Rattle.optimality.specs.declared.sheet.Front.{Front}
 use Rattle.optimality.specs.declared.sheet.Ceiling.{Ceiling}
-use Rattle.optimality.specs.Sheets.{is_closed, opposite, put, State}
+use Rattle.optimality.specs.Sheets.{is_closed, put, State}
 use Rattle.optimality.specs.Problems.{Problem, Fair, Consistent, Arc, head}
 use Rattle.optimality.specs.Keys.{opened_mark, sum, met, improves}
 use Rattle.optimality.specs.Search.{mark_at, Spread, reach, along, spread, closing}

@@ -2,12 +2,12 @@
 use Rattle.std.proofs.Common.{◌≡◌, ℕ, zero, suc, ◌-◌, ◌*◌, ◌^◌, ◌≤◌, true, List, [], ◌∷◌, ◌++◌, reverse, length, length-append, Some, None, Option, sym, refl, ap, ◌∙◌, arith}
 use Rattle.std.proofs.lemmas.List.{reverse-append}
 use Rattle.amounts.specs.Amount.{Ops, Laws, total}
+use Rattle.faults.specs.Faults.{opposite}
 use Rattle.faults.specs.declared.Side.{Side}
 use Rattle.faults.specs.declared.Side.TheVariants.{Forward, Backward}
 use Rattle.networks.specs.declared.section.Section.{Section}
 use Rattle.networks.specs.Nets.{tail}
 use Rattle.networks.specs.Routes.{Joins, worth_in}
-use Rattle.optimality.specs.Sheets.{opposite}
 use Rattle.optimality.specs.Problems.{Problem, Fair, Arc, start, head, route_cost}
 use Rattle.optimality.proofs.Marked.{On}
 use Rattle.optimality.proofs.Having.{has_parts, has_from, on_at}

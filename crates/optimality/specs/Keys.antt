@@ -2,6 +2,7 @@
 use Rattle.std.specs.Prelude.{ℕ, ◌^◌, Bool, true, false, cond, not, ◌&&◌, List, Some, None, Option, nat_lt}
 use Rattle.amounts.specs.Amount.{computed}
 use Rattle.amounts.specs.declared.cost.Cost as cost
+use Rattle.faults.specs.Faults.{opposite}
 use Rattle.faults.specs.declared.Side.{Side}
 use Rattle.networks.specs.declared.section.Section.{Section}
 use Rattle.networks.specs.declared.estimates.Pair.{Pair}
@@ -10,7 +11,6 @@ use Rattle.optimality.specs.declared.sheet.Mark.{Mark}
 use Rattle.optimality.specs.declared.sheet.Front.{Front}
 use Rattle.optimality.specs.declared.sheet.Ceiling.{Ceiling}
 use Rattle.optimality.specs.declared.sheet.Ceiling.TheVariants.{Absent, Met}
-use Rattle.optimality.specs.Sheets.{opposite}
 use Rattle.optimality.specs.Problems.{head, estimate}
 
 -- an open mark

@@ -3,13 +3,13 @@ use Rattle.std.specs.Prelude.{◌≡◌, ℕ, ◌^◌, ◌<◌, ◌≤◌, false
 use Rattle.std.specs.List.{slice_get}
 use Rattle.amounts.specs.Amount.{Laws, Le, SectionFit}
 use Rattle.amounts.specs.declared.cost.Cost as cost
+use Rattle.faults.specs.Faults.{opposite}
 use Rattle.faults.specs.declared.Side.{Side}
 use Rattle.faults.specs.declared.Side.TheVariants.{Forward, Backward}
 use Rattle.networks.specs.declared.section.Section.{Section}
 use Rattle.networks.specs.declared.estimates.Pair.{Pair}
 use Rattle.networks.specs.Nets.{Net, tail}
 use Rattle.networks.specs.Routes.{cost_of}
-use Rattle.optimality.specs.Sheets.{opposite}
 
 -- a kind of cost, what a network means, and what a source of estimates means
 pub record Problem (C L S : Type 0) : Type 1 where

@@ -2,6 +2,7 @@
 use Rattle.std.specs.Prelude.{◌≡◌, ℕ, ◌+◌, ◌<◌, ◌≤◌, true, false, List, length, Some, None, Option, ◌⊎◌}
 use Rattle.std.specs.List.{slice_get}
 use Rattle.amounts.specs.Amount.{Le}
+use Rattle.faults.specs.Faults.{opposite}
 use Rattle.faults.specs.declared.Side.{Side}
 use Rattle.networks.specs.declared.section.Section.{Section}
 use Rattle.networks.specs.Nets.{tail}
@@ -10,7 +11,7 @@ use Rattle.optimality.specs.declared.sheet.Row.{Row}
 use Rattle.optimality.specs.declared.sheet.Front.{Front}
 use Rattle.optimality.specs.declared.sheet.Ceiling.{Ceiling}
 use Rattle.optimality.specs.declared.sheet.Ceiling.TheVariants.{Absent, Met}
-use Rattle.optimality.specs.Sheets.{opposite, State}
+use Rattle.optimality.specs.Sheets.{State}
 use Rattle.optimality.specs.Problems.{Problem, Arc, head}
 use Rattle.optimality.specs.Keys.{opened_mark, sum, key, within, improves}
 use Rattle.optimality.specs.Search.{mark_in, mark_at}

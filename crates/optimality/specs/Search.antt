@@ -2,6 +2,7 @@
 use Rattle.std.specs.Prelude.{ℕ, zero, suc, ◌+◌, Bool, true, cond, List, [], ◌∷◌, map, Some, None, Option, option_map, option_and_then, ◌==◌, nat_lt}
 use Rattle.std.specs.List.{slice_get, range_with_len}
 use Rattle.amounts.specs.declared.cost.Cost as cost
+use Rattle.faults.specs.Faults.{opposite}
 use Rattle.faults.specs.declared.Side.{Side}
 use Rattle.faults.specs.declared.Side.TheVariants.{Forward, Backward}
 use Rattle.networks.specs.declared.section.Section.{Section}
@@ -12,7 +13,7 @@ use Rattle.optimality.specs.declared.sheet.Row.{Row}
 use Rattle.optimality.specs.declared.sheet.Front.{Front}
 use Rattle.optimality.specs.declared.sheet.Ceiling.{Ceiling}
 use Rattle.optimality.specs.declared.sheet.Ceiling.TheVariants.{Absent, Met}
-use Rattle.optimality.specs.Sheets.{opposite, mark_on, put, State}
+use Rattle.optimality.specs.Sheets.{mark_on, put, State}
 use Rattle.optimality.specs.Problems.{Problem, head}
 use Rattle.optimality.specs.Keys.{opened_mark, sum, fits_row, seen, front_of, nearer, within, smaller, key_sum, twice, met, improves, first_mark}
 
@@ -80,12 +81,13 @@ module _ {C L S : Type 0} (p : Problem C L S) where
   abbrev pub ended : State C L S → Bool
   ended st = within p.kind (twice p.kind st.ceiling) (least_sum st)
 
-  -- the front is taken; absent where it would be the last station, or a row does not hold a label that would be written
+  -- the front is closed and its sections are gone through; absent where a row does not hold a label that would be written
+  abbrev pub gone_through : Side → Front L → State C L S → Option (Spread C L S)
+  gone_through side f st = spread p.kind p.net side f.label (starters side p.net f.station) (closing side f st)
+
+  -- the front is taken; absent too where it would be the last station
   abbrev pub taking : Side → Front L → State C L S → Option (State C L S)
-  taking side f st =
-      cond (nat_lt (st.taken + 1) p.net.stations)
-      (option_map (after st) (spread p.kind p.net side f.label (starters side p.net f.station) (closing side f st)))
-      None
+  taking side f st = cond (nat_lt (st.taken + 1) p.net.stations) (option_map (after st) (gone_through side f st)) None
 
   -- what a search begins with
   abbrev pub opened : State C L S

@@ -6,10 +6,6 @@ use Rattle.optimality.specs.declared.sheet.Mark.{Mark}
 use Rattle.optimality.specs.declared.sheet.Row.{Row}
 use Rattle.optimality.specs.declared.sheet.Ceiling.{Ceiling}
 
-abbrev pub opposite : Side → Side
-opposite Forward = Backward
-opposite Backward = Forward
-
 abbrev pub mark_on : {C L S : Type 0} → Side → Row C L S → Option (Mark L)
 mark_on Forward r = r.forward
 mark_on Backward r = r.backward

@@ -1,6 +1,6 @@
 //! The sheet of a search, and its ceiling.
 ghost use Rattle.std.specs.Prelude.{◌≡◌, Option};
-ghost use Rattle.optimality.specs.Sheets.{mark_on, with_mark, opposite};
+ghost use Rattle.optimality.specs.Sheets.{blank_row, mark_on, with_mark};
 
 use amounts::cost::Cost;
 use faults::Side;
@@ -38,6 +38,16 @@ pub struct Front<L> {
 }
 
 impl<C: Cost> Row<C> {
+    /// A row of a station that neither side has labelled.
+    pub fn blank() -> Self
+        ensures { result ≡ blank_row }
+    {
+        Row {
+            forward: None,
+            backward: None,
+        }
+    }
+
     /// A side's mark.
     pub fn mark(&self, side: Side) -> Option<Mark<C::Label>>
         ensures { result ≡ mark_on side self.now }
@@ -56,15 +66,5 @@ impl<C: Cost> Row<C> {
             Side::Forward => self.forward = mark,
             Side::Backward => self.backward = mark,
         }
-    }
-}
-
-/// The other end of a search.
-pub fn opposite(side: Side) -> Side
-    ensures { result ≡ opposite side }
-{
-    match side {
-        Side::Forward => Side::Backward,
-        Side::Backward => Side::Forward,
     }
 }

@@ -1,5 +1,5 @@
 -- What Open asks of the estimates: that they are consistent, and else which section breaks them first.
-use Rattle.std.proofs.Common.{◌≡◌, ℕ, zero, suc, ◌+◌, ◌^◌, ◌<◌, ◌≤◌, Bool, true, false, true≢false, cond, not, ◌&&◌, ◌⊎◌, inl, inr, List, [], ◌∷◌, length, Some, None, Option, ◌==◌, nat_lt, refl, sym, ap, subst, ◌∙◌, arith}
+use Rattle.std.proofs.Common.{◌≡◌, ℕ, zero, suc, ◌+◌, ◌<◌, ◌≤◌, Bool, true, false, true≢false, cond, not, ◌&&◌, List, [], ◌∷◌, length, Some, None, Option, ◌==◌, nat_lt, refl, sym, ap, subst, ◌∙◌, arith}
 use Rattle.std.proofs.lemmas.Bool.{ltb-false}
 use Rattle.std.proofs.lemmas.Option.{none-some}
 use Rattle.std.specs.List.{slice_get}
@@ -11,12 +11,12 @@ use Rattle.faults.specs.declared.Refusal.{Refusal}
 use Rattle.faults.specs.declared.Refusal.TheVariants.{Inconsistent, TooFewRows, EstimateCount}
 use Rattle.networks.specs.declared.section.Section.{Section}
 use Rattle.networks.specs.Nets.{tail}
-use Rattle.optimality.specs.Problems.{Problem, Fair, Arc, Consistent, head, guess}
+use Rattle.optimality.specs.Problems.{Problem, Fair, Consistent, head, guess}
 use Rattle.optimality.specs.Keys.{breaks, difference, at_most}
 use Rattle.optimality.proofs.Exact.{difference_is}
 use Rattle.optimality.proofs.Sides.{sides_differ}
 use Rattle.search.specs.Calls.{first_broken, unfit}
-use Rattle.search.specs.Claims.{Breaks, FirstBreak}
+use Rattle.search.specs.Claims.{FirstBreak}
 
 abbrev number_in : Option Refusal → ℕ
 number_in None = 0

@@ -1,11 +1,9 @@
 -- The theorem: what is claimed of a search that has its sheet to itself holds.
-use Rattle.std.proofs.Common.{◌≡◌, ℕ, ◌+◌, ◌<◌, ◌≤◌, Bool, true, false, true≢false, cond, ◌⊎◌, inl, inr, ◌↔◌, List, [], ◌∷◌, ◌++◌, length, Some, None, Option, Ok, Err, Result, refl, sym, ap, subst, subst₂, ◌∙◌, arith}
+use Rattle.std.proofs.Common.{◌≡◌, ℕ, ◌<◌, Bool, true, false, true≢false, cond, ◌⊎◌, inl, inr, ◌↔◌, List, [], ◌∷◌, ◌++◌, length, Some, None, Ok, Err, Result, refl, sym, ap, subst, subst₂, ◌∙◌, arith}
 use Rattle.std.proofs.lemmas.Option.{none-some}
-use Rattle.amounts.specs.Amount.{Le}
 use Rattle.faults.specs.declared.Side.{Side}
 use Rattle.faults.specs.declared.Refusal.TheVariants.{NotEnded}
 use Rattle.networks.specs.Routes.{Route}
-use Rattle.optimality.specs.declared.sheet.Row.{Row}
 use Rattle.optimality.specs.declared.sheet.Ceiling.{Ceiling}
 use Rattle.optimality.specs.declared.sheet.Ceiling.TheVariants.{Absent, Met}
 use Rattle.optimality.specs.Sheets.{State}
@@ -13,11 +11,10 @@ use Rattle.optimality.specs.Problems.{Problem, Fair, Consistent, route_cost}
 use Rattle.optimality.specs.Search.{floor, ended}
 use Rattle.optimality.specs.Published.{amount_of}
 use Rattle.optimality.proofs.Marked.{OnMet, CeilLe}
-use Rattle.optimality.proofs.Invariant.{Stands}
 use Rattle.optimality.proofs.Lower.{floor_bounds, ended_bounds, ceiling_route}
 use Rattle.search.specs.declared.running.Bounds.{Bounds}
-use Rattle.search.specs.Calls.{begun, own, short, foreign, step, bounds, unfinished, unfit, turned_down, search_fault}
-use Rattle.search.specs.Claims.{Call, step_by_side, left, GoesOn, StillSound, Leads, Own, Closed, Takes, Reachable, Least, NoRoute, AtMost, Floor, StepAccepted, StepRefused, Sound}
+use Rattle.search.specs.Calls.{begun, own, foreign, bounds, unfinished, search_fault}
+use Rattle.search.specs.Claims.{Call, left, GoesOn, Leads, Own, Closed, Reachable, Least, NoRoute, AtMost, Floor, StepAccepted, StepRefused, Sound}
 use Rattle.search.proofs.Consistency.{unfit_room, unfit_consistent}
 use Rattle.search.proofs.Runs.{Good, Took, begun_good, not_short, outcome, was_open, is_taken, only, through, none_twice}
 
@@ -128,5 +125,10 @@ module _ {C L S : Type 0} (p : Problem C L S) where
   pub own_more : (calls : List Call) (c : Call) (st : State C L S) → Own p calls st → GoesOn p st c → Own p (calls ++ (c ∷ [])) (left p st c)
   own_more calls c st own on = record { sheet = own.sheet; accepts = own.accepts; led = leads_more calls c (begun p own.sheet) st own.led on }
 
-  pub still : Fair p → (calls : List Call) (c : Call) (st : State C L S) → Own p calls st → GoesOn p st c → StillSound p (calls ++ (c ∷ [])) (left p st c)
+  -- after one more call the search has its sheet to itself still, and all is as claimed
+  pub record StillStands (calls : List Call) (st : State C L S) : Type 0 where
+    pub own : Own p calls st
+    pub sound : Sound p calls st own
+
+  pub still : Fair p → (calls : List Call) (c : Call) (st : State C L S) → Own p calls st → GoesOn p st c → StillStands (calls ++ (c ∷ [])) (left p st c)
   still fair calls c st own on = let more = own_more calls c st own on in record { own = more; sound = sound p fair (calls ++ (c ∷ [])) (left p st c) more }

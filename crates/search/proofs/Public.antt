@@ -1,10 +1,11 @@
 -- What the contract of each call says beyond its answer.
-use Rattle.std.proofs.Common.{◌≡◌, ℕ, Bool, true, false, cond, List, [], ◌∷◌, ◌++◌, length, inl, inr, is_some, Some, None, Option, Ok, Err, Result, OnOk, refl, sym, ap, subst, ◌∙◌}
-use Rattle.std.proofs.lemmas.Option.{none-some}
+use Rattle.std.proofs.Common.{◌≡◌, List, [], ◌∷◌, ◌++◌, length, inl, inr, is_some, Some, None, Option, Ok, Err, Result, OnOk, refl, sym, ap, subst, ◌∙◌}
+use Rattle.amounts.specs.declared.cost.Cost as cost
+use Rattle.networks.specs.declared.network.Network as network
+use Rattle.networks.specs.declared.estimates.Estimates as estimates
 use Rattle.faults.specs.declared.Side.{Side}
 use Rattle.faults.specs.declared.Fault.{Fault}
 use Rattle.faults.specs.declared.Refusal.{Refusal}
-use Rattle.faults.specs.declared.Refusal.TheVariants.{Inconsistent}
 use Rattle.optimality.specs.declared.sheet.Row.{Row}
 use Rattle.optimality.specs.declared.sheet.Ceiling.{Ceiling}
 use Rattle.optimality.specs.declared.sheet.Ceiling.TheVariants.{Absent, Met}
@@ -14,65 +15,77 @@ use Rattle.search.specs.declared.running.Bounds.{Bounds}
 use Rattle.search.specs.declared.running.Running.{Running}
 use Rattle.search.specs.declared.running.Finished.{Finished}
 use Rattle.search.specs.declared.running.Unfinished.{Unfinished}
-use Rattle.search.specs.Calls.{search_fault, standing, Opening, opening, opening_by, unfit, begun, Stepped, step, bounds, unfinished, conclusion, finish_by, finish}
-use Rattle.search.specs.Claims.{Call, step_by_side, ask_bounds, try_finish, left, Own, StepAccepted, StepRefused, Sound, StillSound, OpenSound, StepRule, StepSound, BoundsSound, FinishSound}
+use Rattle.search.specs.Calls.{standing, running, Opening, Left, opening_by, unfit, begun, step, unfinished, conclusion, finish_by, posed, problem, open_of, step_of, bounds_of, finish_of}
+use Rattle.search.specs.Claims.{Call, step_by_side, ask_bounds, try_finish, left, GoesOn, Own, Sound, StepRule, HasItsSheet, AllStands, OpenStands, StepStands, BoundsStand, FinishStands}
 use Rattle.search.proofs.Consistency.{unfit_consistent, unfit_broken}
-use Rattle.search.proofs.Main.{sound, still}
+use Rattle.search.proofs.Main.{StillStands, sound, still}
 use Rattle.search.proofs.Ruling.{not_ok, step_ruled}
 
 on_ok_from : (a : Result (Unit {0}) Fault) (P : Type 0) → (a ≡ Ok tt → P) → OnOk a P
 on_ok_from (Ok _) P h = h refl
 on_ok_from (Err f) P h = tt
 
-module _ {C L S : Type 0} (p : Problem C L S) (fair : Fair p) where
-  module _ {N E : Type 0} (net : N) (given : E) (sheet : List (Row C L S)) where
-    Opened : Opening C N E L S → Type 0
-    Opened o = OpenSound p o.answer o.sheet
+module _ {C N E L S : Type 0} (c : cost.Ghosts C L S) (n : network.Ghosts N C L S) (e : estimates.Ghosts E C L S) where
+  -- one call more
+  more : (s : Running C N E L S) (sheet : List (Row C L S)) → Fair (problem c n e s) → (calls : List Call) (k : Call) → HasItsSheet c n e calls s sheet → GoesOn (problem c n e s) (standing s sheet) k → StillStands (problem c n e s) (calls ++ (k ∷ [])) (left (problem c n e s) (standing s sheet) k)
+  more s sheet fair calls k own on = still (problem c n e s) fair calls k (standing s sheet) own on
+
+  all_by : (calls : List Call) (s : Running C N E L S) (sheet : List (Row C L S)) → StillStands (problem c n e s) calls (standing s sheet) → AllStands c n e calls s sheet
+  all_by calls s sheet now = record { own = now.own; sound = now.sound }
+
+  module _ (net : N) (given : E) (fair : Fair (posed c n e net given)) (sheet : List (Row C L S)) where
+    abbrev p : Problem C L S
+    p = posed c n e net given
+
+    abbrev Opened : Opening C N E L S → Type 0
+    Opened o = OpenStands c n e net given o.answer o.sheet
 
     opened_by : (r : Option Refusal) → unfit p (length sheet) ≡ r → Opened (opening_by p net given sheet r)
-    unfolding Opened
-    opened_by None e =
-        let own : Own p [] (begun p sheet) = record { sheet = sheet; accepts = e; led = refl } in
-        (unfit_consistent p fair (length sheet) e, record { own = own; sound = sound p fair [] (begun p sheet) own })
-    opened_by (Some r) e = λ k side fault. unfit_broken p fair (length sheet) k side (e ∙ ap (λ f. Some f.refusal) fault)
+    opened_by None is =
+        let own : Own p [] (begun p sheet) = record { sheet = sheet; accepts = is; led = refl } in
+        (unfit_consistent p fair (length sheet) is, record { own = own; sound = sound p fair [] (begun p sheet) own })
+    opened_by (Some r) is = λ k side fault. unfit_broken p fair (length sheet) k side (is ∙ ap (λ f. Some f.refusal) fault)
 
-    pub open_sound : (o : Opening C N E L S) → o ≡ opening p net given sheet → OpenSound p o.answer o.sheet
-    unfolding Opened
-    open_sound o e = subst Opened (sym e) (opened_by (unfit p (length sheet)) refl)
+    pub open_stands : (o : Opening C N E L S) → o ≡ open_of c n e net given sheet → OpenStands c n e net given o.answer o.sheet
+    open_stands o is = subst Opened (sym is) (opened_by (unfit p (length sheet)) refl)
 
-  module _ (side : Side) (st : State C L S) (r : Stepped C L S) (is : r ≡ step p st side) where
-    -- accepted, it goes by the rule
-    pub step_rule : OnOk r.answer (StepRule p side st r.state)
-    step_rule = subst (λ x. OnOk x.answer (StepRule p side st x.state)) (sym is) (on_ok_from ((step p st side).answer) (StepRule p side st ((step p st side).state)) (step_ruled p fair st side))
+  module _ (s : Running C N E L S) (fair : Fair (problem c n e s)) (sheet : List (Row C L S)) where
+    abbrev q : Problem C L S
+    q = problem c n e s
 
-    pub step_sound : (calls : List Call) → Own p calls st → StepSound p calls side st r.state r.answer
-    step_sound calls own =
-        record {
-          now = subst (λ x. StillSound p (calls ++ (step_by_side side ∷ [])) x.state) (sym is) (still p fair calls (step_by_side side) st own tt);
-          only_ended = λ f e. elim ((sound p fair calls st own).steps side) [ inl took ↦ absurd (not_ok f (sym e ∙ ap (λ x. x.answer) is ∙ took.answer)) | inr stop ↦ stop.ended ];
-        }
+    abbrev st : State C L S
+    st = standing s sheet
 
-  module _ (st : State C L S) (r : Result (Bounds L) Fault) (is : r ≡ bounds p st) where
-    pub bounds_sound : (calls : List Call) → Own p calls st → BoundsSound p calls st r
-    bounds_sound calls own =
-        let all = sound p fair calls st own in
+    module _ (side : Side) (r : Left C N E L S) (is : r ≡ step_of c n e side s sheet) where
+      -- accepted, it goes by the rule
+      pub step_rule : OnOk r.answer (StepRule q side st (standing r.search r.sheet))
+      step_rule = subst (λ x. OnOk x.answer (StepRule q side st (standing x.search x.sheet))) (sym is) (on_ok_from ((step q st side).answer) (StepRule q side st ((step q st side).state)) (step_ruled q fair st side))
+
+      pub step_stands : (calls : List Call) → HasItsSheet c n e calls s sheet → StepStands c n e calls side s sheet r.answer r.search r.sheet
+      step_stands calls own =
+          let now = sound q fair calls st own in
+          record {
+            before = record { own = own; sound = now };
+            after_it = subst (λ x. AllStands c n e (calls ++ (step_by_side side ∷ [])) x.search x.sheet) (sym is) (all_by (calls ++ (step_by_side side ∷ [])) (running s.net s.estimates ((step q st side).state)) ((step q st side).state.rows) (more s sheet fair calls (step_by_side side) own tt));
+            only_ended = λ f err. elim (now.steps side) [ inl took ↦ absurd (not_ok f (sym err ∙ ap (λ x. x.answer) is ∙ took.answer)) | inr stop ↦ stop.ended ];
+          }
+
+    pub bounds_stand : (r : Result (Bounds L) Fault) → r ≡ bounds_of c n e s sheet → (calls : List Call) → HasItsSheet c n e calls s sheet → BoundsStand c n e calls s sheet r
+    bounds_stand r is calls own =
+        let all = sound q fair calls st own in
         let (b, at) = all.answered in
-        subst (BoundsSound p calls st) (sym (is ∙ at)) (all.floor b at, λ a m e. all.ceiling b a m at e, still p fair calls ask_bounds st own tt)
+        subst (BoundsStand c n e calls s sheet) (sym (is ∙ at)) (all.floor b at, λ a m met. all.ceiling b a m at met, all_by (calls ++ (ask_bounds ∷ [])) s sheet (more s sheet fair calls ask_bounds own tt))
 
-  module _ {N E : Type 0} (s : Running C N E L S) (sheet : List (Row C L S)) (r : Result (Finished C N E L S) (Unfinished C N E L S)) (is : r ≡ finish p s sheet) where
-    pub finish_sound : (calls : List Call) → Own p calls (standing s sheet) → FinishSound p calls (standing s sheet) r
-    finish_sound calls own = subst (FinishSound p calls st) (sym is) (by_fault (unfinished p st) refl)
+    pub finish_stands : (r : Result (Finished C N E L S) (Unfinished C N E L S)) → r ≡ finish_of c n e s sheet → (calls : List Call) → HasItsSheet c n e calls s sheet → FinishStands c n e calls s sheet r
+    finish_stands r is calls own = subst (FinishStands c n e calls s sheet) (sym is) (by_fault (unfinished q st) refl)
       where
-        st : State C L S
-        st = standing s sheet
+        all : Sound q calls st own
+        all = sound q fair calls st own
 
-        all : Sound p calls st own
-        all = sound p fair calls st own
+        by_ceiling : unfinished q st ≡ None → (x : Ceiling L) → s.ceiling ≡ x → FinishStands c n e calls s sheet (Ok (conclusion q s x))
+        by_ceiling over Absent at = (all.none over).0 at
+        by_ceiling over (Met a m) at = all.least a m over at
 
-        by_ceiling : unfinished p st ≡ None → (c : Ceiling L) → s.ceiling ≡ c → FinishSound p calls st (Ok (conclusion p s c))
-        by_ceiling e Absent is = (all.none e).0 is
-        by_ceiling e (Met a m) is = all.least a m e is
-
-        by_fault : (f : Option Fault) → unfinished p st ≡ f → FinishSound p calls st (finish_by p s f)
-        by_fault (Some f) e = still p fair calls try_finish st own (ap is_some e)
-        by_fault None e = by_ceiling e s.ceiling refl
+        by_fault : (f : Option Fault) → unfinished q st ≡ f → FinishStands c n e calls s sheet (finish_by q s f)
+        by_fault (Some f) at = all_by (calls ++ (try_finish ∷ [])) s sheet (more s sheet fair calls try_finish own (ap is_some at))
+        by_fault None at = by_ceiling at s.ceiling refl

@@ -1,17 +1,16 @@
 -- An accepted step takes the side's front by the rule, on any sheet.
-use Rattle.std.proofs.Common.{◌≡◌, ℕ, ◌+◌, ◌<◌, ◌≤◌, Bool, true, false, cond, List, ◌++◌, length, take, drop, Some, None, Option, Ok, Err, Result, refl, sym, ap, subst, ◌∙◌, arith, length-take}
+use Rattle.std.proofs.Common.{◌≡◌, ℕ, ◌≤◌, Bool, true, false, cond, ◌++◌, length, drop, Some, None, Option, Ok, Err, Result, refl, sym, ap, subst, ◌∙◌, arith, length-take}
 use Rattle.std.proofs.Math.Seq.{drop-append_seam}
 use Rattle.std.proofs.lemmas.Bool.{ltb-false}
 use Rattle.faults.specs.declared.Side.{Side}
 use Rattle.faults.specs.declared.Fault.{Fault}
-use Rattle.optimality.specs.declared.sheet.Row.{Row}
 use Rattle.optimality.specs.declared.sheet.Front.{Front}
 use Rattle.optimality.specs.Sheets.{State}
 use Rattle.optimality.specs.Problems.{Problem, Fair}
 use Rattle.optimality.specs.Search.{front, ended, taking}
 use Rattle.optimality.specs.Published.{TakenByRule}
 use Rattle.optimality.proofs.Rule.{takes_rule}
-use Rattle.search.specs.Calls.{Stepped, own, over, short, foreign, next, stepped_to, step_by, step}
+use Rattle.search.specs.Calls.{Stepped, own, short, foreign, next, stepped_to, step_by, step}
 use Rattle.search.specs.Claims.{one_if, StepRule}
 use Rattle.search.proofs.Owned.{own_over}
 

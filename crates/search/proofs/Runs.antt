@@ -1,14 +1,14 @@
 -- A search that has its sheet to itself: what stands at the start and after each call, and what a list of calls adds up to.
 use Rattle.std.proofs.Common.{◌≡◌, ℕ, ◌+◌, ◌<◌, ◌≤◌, Bool, true, false, true≢false, cond, ◌⊎◌, inl, inr, List, [], ◌∷◌, length, None, Ok, refl, sym, ap, subst, ◌∙◌, arith}
 use Rattle.std.proofs.lemmas.Bool.{cases_eq, cases_lt, le-ltb}
+use Rattle.faults.specs.Faults.{opposite}
 use Rattle.faults.specs.declared.Side.{Side}
-use Rattle.faults.specs.declared.Side.TheVariants.{Forward, Backward}
 use Rattle.faults.specs.declared.Refusal.TheVariants.{Ended}
 use Rattle.optimality.specs.declared.sheet.Row.{Row}
 use Rattle.optimality.specs.declared.sheet.Front.{Front}
 use Rattle.optimality.specs.declared.sheet.Ceiling.{Ceiling}
 use Rattle.optimality.specs.declared.sheet.Ceiling.TheVariants.{Absent, Met}
-use Rattle.optimality.specs.Sheets.{is_closed, opposite, State}
+use Rattle.optimality.specs.Sheets.{is_closed, State}
 use Rattle.optimality.specs.Problems.{Problem, Fair, Consistent}
 use Rattle.optimality.specs.Search.{mark_at, front, floor, ended, opened}
 use Rattle.optimality.specs.Published.{amount_of}

@@ -1,5 +1,5 @@
 -- What the calls of a search answer, and what search and sheet then hold; and which search has its sheet to itself.
-use Rattle.std.specs.Prelude.{◌≡◌, ℕ, ◌+◌, ◌^◌, ◌<◌, Bool, cond, List, [], ◌∷◌, ◌++◌, length, take, drop, Some, None, Option, Ok, Err, Result, ◌==◌, nat_lt}
+use Rattle.std.specs.Prelude.{ℕ, ◌+◌, ◌^◌, ◌<◌, Bool, cond, List, [], ◌∷◌, ◌++◌, length, take, drop, Some, None, Option, Ok, Err, Result, ◌==◌, nat_lt}
 use Rattle.amounts.specs.declared.cost.Cost as cost
 use Rattle.networks.specs.declared.network.Network as network
 use Rattle.networks.specs.declared.estimates.Estimates as estimates
@@ -31,15 +31,7 @@ search_fault r = fault_of layer.Search r
 
 -- Searches and states --------------------------------------------------------------------------
 
--- the problem that a network and estimates pose
-abbrev pub posed : {C N E L S : Type 0} → cost.Ghosts C L S → network.Ghosts N C L S → estimates.Ghosts E C L S → N → E → Problem C L S
-posed c n e net given = record { kind = c; net = n.meaning net; estimates = e.meaning given }
-
 module _ {C N E L S : Type 0} where
-  -- the problem of a search
-  abbrev pub problem : cost.Ghosts C L S → network.Ghosts N C L S → estimates.Ghosts E C L S → Running C N E L S → Problem C L S
-  problem c n e s = posed c n e s.net s.estimates
-
   -- what a search and its sheet hold
   abbrev pub standing : Running C N E L S → List (Row C L S) → State C L S
   standing s sheet = record { taken = s.taken; ceiling = s.ceiling; rows = sheet }
@@ -48,16 +40,15 @@ module _ {C N E L S : Type 0} where
   abbrev pub running : N → E → State C L S → Running C N E L S
   running net given st = record { net = net; estimates = given; taken = st.taken; ceiling = st.ceiling }
 
--- the search is still over the same network and estimates
-pub record Kept {C N E L S : Type 0} (before after : Running C N E L S) : Type 0 where
-  pub net : after.net ≡ before.net
-  pub estimates : after.estimates ≡ before.estimates
-
--- Open -------------------------------------------------------------------------------------------
-
--- what an Open answers, and what the sheet then holds
+-- What an Open answers, and what the sheet then holds.
 pub record Opening (C N E L S : Type 0) : Type 0 where
   pub answer : Result (Running C N E L S) (Unopened N E)
+  pub sheet : List (Row C L S)
+
+-- What a step answers, and what search and sheet then are.
+pub record Left (C N E L S : Type 0) : Type 0 where
+  pub answer : Result (Unit {0}) Fault
+  pub search : Running C N E L S
   pub sheet : List (Row C L S)
 
 -- The calls over a state, whose rows are the whole sheet -----------------------------------------
@@ -151,3 +142,30 @@ module _ {C L S : Type 0} (p : Problem C L S) where
 
     abbrev pub finish : List (Row C L S) → Result (Finished C N E L S) (Unfinished C N E L S)
     finish sheet = finish_by (unfinished (standing s sheet))
+
+-- The calls, by what a kind of cost, a network and estimates mean ---------------------------------
+
+module _ {C N E L S : Type 0} (c : cost.Ghosts C L S) (n : network.Ghosts N C L S) (e : estimates.Ghosts E C L S) where
+  -- the problem that a network and estimates pose
+  abbrev pub posed : N → E → Problem C L S
+  posed net given = record { kind = c; net = n.meaning net; estimates = e.meaning given }
+
+  -- the problem of a search
+  abbrev pub problem : Running C N E L S → Problem C L S
+  problem s = posed s.net s.estimates
+
+  abbrev pub open_of : N → E → List (Row C L S) → Opening C N E L S
+  open_of net given sheet = opening (posed net given) net given sheet
+
+  abbrev pub left_by : Running C N E L S → Stepped C L S → Left C N E L S
+  left_by s r = record { answer = r.answer; search = running s.net s.estimates r.state; sheet = r.state.rows }
+
+  -- Forward or Backward
+  abbrev pub step_of : Side → Running C N E L S → List (Row C L S) → Left C N E L S
+  step_of side s sheet = left_by s (step (problem s) (standing s sheet) side)
+
+  abbrev pub bounds_of : Running C N E L S → List (Row C L S) → Result (Bounds L) Fault
+  bounds_of s sheet = bounds (problem s) (standing s sheet)
+
+  abbrev pub finish_of : Running C N E L S → List (Row C L S) → Result (Finished C N E L S) (Unfinished C N E L S)
+  finish_of s sheet = finish (problem s) s sheet

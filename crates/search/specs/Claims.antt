@@ -11,6 +11,9 @@
 use Rattle.std.specs.Prelude.{◌≡◌, ℕ, ◌+◌, ◌<◌, true, List, [], ◌∷◌, ◌++◌, length, drop, is_some, Some, None, Option, Ok, Err, Result, ◌⊎◌, ◌↔◌}
 use Rattle.std.specs.List.{slice_get}
 use Rattle.amounts.specs.Amount.{Le}
+use Rattle.amounts.specs.declared.cost.Cost as cost
+use Rattle.networks.specs.declared.network.Network as network
+use Rattle.networks.specs.declared.estimates.Estimates as estimates
 use Rattle.faults.specs.declared.Side.{Side}
 use Rattle.faults.specs.declared.Side.TheVariants.{Forward, Backward}
 use Rattle.faults.specs.declared.Fault.{Fault}
@@ -32,7 +35,7 @@ use Rattle.search.specs.declared.running.Unopened.{Unopened}
 use Rattle.search.specs.declared.running.Finished.{Finished}
 use Rattle.search.specs.declared.running.Finished.TheVariants as finished
 use Rattle.search.specs.declared.running.Unfinished.{Unfinished}
-use Rattle.search.specs.Calls.{standing, begun, unfit, own, step, bounds, unfinished, turned_down, search_fault}
+use Rattle.search.specs.Calls.{posed, problem, standing, begun, unfit, own, step, bounds, unfinished, turned_down, search_fault}
 
 -- Lists of calls ---------------------------------------------------------------------------------
 
@@ -175,38 +178,42 @@ module _ {C L S : Type 0} (p : Problem C L S) where
 
 -- What the contract of each call says of it ------------------------------------------------------
 
-module _ {C L S : Type 0} (p : Problem C L S) where
-  -- after one more call the search has its sheet to itself still, and all is as claimed
-  pub record StillSound (calls : List Call) (st : State C L S) : Type 0 where
-    pub own : Own p calls st
-    pub sound : Sound p calls st own
+-- An accepted step takes the side's front by the rule, on the rows of the stations; those past them stay.
+pub record StepRule {C L S : Type 0} (p : Problem C L S) (side : Side) (before after : State C L S) : Type 0 where
+  pub taken_front : Front L
+  pub rule : TakenByRule p side taken_front (own p before) (own p after)
+  pub past : drop p.net.stations after.rows ≡ drop p.net.stations before.rows
 
-  module _ {N E : Type 0} where
-    -- Accepted, the estimates are consistent, and the search has its sheet to itself. Turned down for the estimates, they
-    -- break first where the fault says.
-    abbrev pub OpenSound : Result (Running C N E L S) (Unopened N E) → List (Row C L S) → Type 0
-    OpenSound (Ok s) sheet = Consistent p × StillSound [] (standing s sheet)
-    OpenSound (Err back) sheet = (k : ℕ) (side : Side) → back.fault ≡ search_fault (Inconsistent k side) → FirstBreak p k side
+module _ {C N E L S : Type 0} (c : cost.Ghosts C L S) (n : network.Ghosts N C L S) (e : estimates.Ghosts E C L S) where
+  -- the search has its sheet to itself, by these calls
+  abbrev pub HasItsSheet : List Call → Running C N E L S → List (Row C L S) → Type 0
+  HasItsSheet calls s sheet = Own (problem c n e s) calls (standing s sheet)
 
-    -- An accepted Finish answers that there is no route exactly if there is none; else its cost is that of a route, and
-    -- every route costs at least as much. Turned down, the search goes on.
-    abbrev pub FinishSound : List Call → State C L S → Result (Finished C N E L S) (Unfinished C N E L S) → Type 0
-    FinishSound calls st (Ok (finished.NoRoute n)) = NoRoute p
-    FinishSound calls st (Ok (finished.Found f)) = Reachable p f.cost × Least p f.cost
-    FinishSound calls st (Err back) = StillSound (calls ++ (try_finish ∷ [])) st
+  -- and all stands that is claimed
+  pub record AllStands (calls : List Call) (s : Running C N E L S) (sheet : List (Row C L S)) : Type 0 where
+    pub own : HasItsSheet calls s sheet
+    pub sound : Sound (problem c n e s) calls (standing s sheet) own
 
-  -- An accepted step takes the side's front by the rule, on the rows of the stations; those past them stay.
-  pub record StepRule (side : Side) (before after : State C L S) : Type 0 where
-    pub taken_front : Front L
-    pub rule : TakenByRule p side taken_front (own p before) (own p after)
-    pub past : drop p.net.stations after.rows ≡ drop p.net.stations before.rows
+  -- Accepted, the estimates are consistent, and the search has its sheet to itself. Turned down for the estimates, they
+  -- break first where the fault says.
+  abbrev pub OpenStands : N → E → Result (Running C N E L S) (Unopened N E) → List (Row C L S) → Type 0
+  OpenStands net given (Ok s) sheet = Consistent (posed c n e net given) × AllStands [] s sheet
+  OpenStands net given (Err back) sheet = (k : ℕ) (side : Side) → back.fault ≡ search_fault (Inconsistent k side) → FirstBreak (posed c n e net given) k side
 
-  -- a step is turned down only where the search is ended
-  pub record StepSound (calls : List Call) (side : Side) (before after : State C L S) (answer : Result (Unit {0}) Fault) : Type 0 where
-    pub now : StillSound (calls ++ (step_by_side side ∷ [])) after
-    pub only_ended : (f : Fault) → answer ≡ Err f → unfinished p before ≡ None
+  -- All stands after the step too; and only an ended search turns it down.
+  pub record StepStands (calls : List Call) (side : Side) (s : Running C N E L S) (sheet : List (Row C L S)) (answer : Result (Unit {0}) Fault) (t : Running C N E L S) (after : List (Row C L S)) : Type 0 where
+    pub before : AllStands calls s sheet
+    pub after_it : AllStands (calls ++ (step_by_side side ∷ [])) t after
+    pub only_ended : (f : Fault) → answer ≡ Err f → unfinished (problem c n e s) (standing s sheet) ≡ None
 
-  -- the floor and the ceiling that Bounds answers
-  abbrev pub BoundsSound : List Call → State C L S → Result (Bounds L) Fault → Type 0
-  BoundsSound calls st (Ok b) = Floor p b.floor × ((a : L) (m : ℕ) → b.ceiling ≡ Met a m → Reachable p a) × StillSound (calls ++ (ask_bounds ∷ [])) st
-  BoundsSound calls st (Err f) = ⊥
+  -- Bounds is answered: twice every route's cost is at least the floor, and some route costs the ceiling.
+  abbrev pub BoundsStand : List Call → Running C N E L S → List (Row C L S) → Result (Bounds L) Fault → Type 0
+  BoundsStand calls s sheet (Ok b) = Floor (problem c n e s) b.floor × ((a : L) (m : ℕ) → b.ceiling ≡ Met a m → Reachable (problem c n e s) a) × AllStands (calls ++ (ask_bounds ∷ [])) s sheet
+  BoundsStand calls s sheet (Err f) = ⊥
+
+  -- Accepted, it answers that there is no route exactly if there is none; else its cost is that of a route, and every
+  -- route costs at least as much. Turned down, the search goes on.
+  abbrev pub FinishStands : List Call → Running C N E L S → List (Row C L S) → Result (Finished C N E L S) (Unfinished C N E L S) → Type 0
+  FinishStands calls s sheet (Ok (finished.NoRoute r)) = NoRoute (problem c n e s)
+  FinishStands calls s sheet (Ok (finished.Found r)) = Reachable (problem c n e s) r.cost × Least (problem c n e s) r.cost
+  FinishStands calls s sheet (Err back) = AllStands (calls ++ (try_finish ∷ [])) back.search sheet

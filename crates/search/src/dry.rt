@@ -5,7 +5,7 @@ ghost use Rattle.networks.specs.Nets.{InRange, starters};
 ghost use Rattle.optimality.specs.Search.{mark_at};
 ghost use Rattle.search.specs.Replay.{mark_by, mark_after, large_at};
 
-use crate::amounts_of::{fits_row, improves, mark_at};
+use crate::labels::{fits_row, improves, mark_at};
 use crate::sections::head;
 use amounts::cost::Cost;
 use faults::Side;

@@ -4,11 +4,11 @@ ghost use Rattle.optimality.specs.Problems.{estimate};
 ghost use Rattle.optimality.specs.Keys.{key, front_of, nearer, within, smaller, key_sum, twice};
 ghost use Rattle.optimality.specs.Search.{least};
 
-use crate::amounts_of::mark_at;
+use crate::labels::mark_at;
 use amounts::cost::Cost;
 use faults::Side;
 use networks::estimates::Estimates;
-use optimality::sheet::{Ceiling, Front, Mark, Row, opposite};
+use optimality::sheet::{Ceiling, Front, Mark, Row};
 
 /// A side's estimate at a station; zero beyond the last one.
 pub fn estimate<C: Cost, E: Estimates<C>>(estimates: &E, side: Side, station: usize) -> C::Label
@@ -33,7 +33,7 @@ fn key<C: Cost, E: Estimates<C>>(
     ensures { result ≡ key C.Cost (E.Estimates.meaning estimates.now) side station label }
 {
     let own = estimate::<C, E>(estimates, side, station);
-    let other = estimate::<C, E>(estimates, opposite(side), station);
+    let other = estimate::<C, E>(estimates, side.opposite(), station);
     C::difference(C::sum(C::sum(label, label), own), other)
 }
 

@@ -13,7 +13,7 @@ use faults::{Refusal, Side};
 use networks::estimates::Estimates;
 use networks::network::Network;
 use networks::section::Section;
-use optimality::sheet::{Ceiling, Mark, Row, opposite};
+use optimality::sheet::{Ceiling, Mark, Row};
 
 /// Whether a side's estimate falls by more than its amount along the section, which is open.
 fn breaks<C: Cost, E: Estimates<C>>(
@@ -23,7 +23,7 @@ fn breaks<C: Cost, E: Estimates<C>>(
 ) -> bool
     ensures { result ≡ breaks C.Cost (E.Estimates.meaning estimates.now) side section.now }
 {
-    let near = estimate::<C, E>(estimates, side, head(opposite(side), section));
+    let near = estimate::<C, E>(estimates, side, head(side.opposite(), section));
     let far = estimate::<C, E>(estimates, side, head(side, section));
     !section.shut && !C::at_most(C::difference(near, far), C::worth(section.amount))
 }

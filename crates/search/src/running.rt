@@ -1,13 +1,13 @@
 //! A search: running, found, or without a route.
 ghost use Rattle.std.specs.Prelude.{◌≡◌, ◌^◌, ◌<◌, ◌≤◌, length, List, Some, true, cond, None, is_some, option_map, IfSome, OnOk};
-ghost use Rattle.optimality.specs.Search.{front, floor, ended, spread, closing, after};
+ghost use Rattle.optimality.specs.Search.{front, least_sum, floor, ended, gone_through, after};
 ghost use Rattle.optimality.specs.Keys.{smaller};
 ghost use Rattle.networks.specs.Nets.{InRange, starters};
 ghost use Rattle.faults.specs.declared.Refusal.TheVariants.{ForeignSheet};
 ghost use Rattle.faults.specs.declared.Side.TheVariants.{Forward, Backward};
 ghost use Rattle.optimality.specs.Problems.{Fair};
-ghost use Rattle.search.specs.Claims.{Call, Own, OpenSound, StepRule, StepSound, BoundsSound, FinishSound};
-ghost use Rattle.search.specs.Calls.{posed, problem, standing, Kept, Ready, opening, step, bounds, unfinished, finish, search_fault};
+ghost use Rattle.search.specs.Claims.{Call, StepRule, HasItsSheet, OpenStands, StepStands, BoundsStand, FinishStands};
+ghost use Rattle.search.specs.Calls.{posed, problem, standing, Ready, unfinished, open_of, step_of, bounds_of, finish_of, search_fault};
 
 use crate::dry::too_large;
 use crate::fronts::{key_sum, least, smaller, twice, within};
@@ -23,6 +23,7 @@ use optimality::sheet::{Ceiling, Front, Mark, Row};
 const LIGHT: u64 = (1 << 44) - (1 << 32);
 
 /// A search that is under way. It is moved and never copied; its sheet is lent to each call.
+#[derive(Drop)]
 pub struct Running<C: Cost, N, E> {
     net: N,
     estimates: E,
@@ -31,6 +32,7 @@ pub struct Running<C: Cost, N, E> {
 }
 
 /// A search that found a route of least cost.
+#[derive(Drop)]
 pub struct Found<C: Cost, N, E> {
     net: N,
     estimates: E,
@@ -40,6 +42,7 @@ pub struct Found<C: Cost, N, E> {
 }
 
 /// A search that found that there is no route.
+#[derive(Drop)]
 pub struct NoRoute<N, E> {
     net: N,
     estimates: E,
@@ -47,12 +50,14 @@ pub struct NoRoute<N, E> {
 }
 
 /// What an accepted Finish gives.
+#[derive(Drop)]
 pub enum Finished<C: Cost, N, E> {
     Found(Found<C, N, E>),
     NoRoute(NoRoute<N, E>),
 }
 
 /// What a refused Open gives back.
+#[derive(Drop)]
 pub struct Unopened<N, E> {
     pub net: N,
     pub estimates: E,
@@ -60,6 +65,7 @@ pub struct Unopened<N, E> {
 }
 
 /// What a refused Finish gives back.
+#[derive(Drop)]
 pub struct Unfinished<C: Cost, N, E> {
     pub search: Running<C, N, E>,
     pub fault: Fault,
@@ -97,26 +103,27 @@ impl<C: Cost, N: Network<C>, E: Estimates<C>> Running<C, N, E> {
         }
     }
 
+    /// The sum of the least keys; absent where a side has no open station.
+    fn least_sum(&self, own: &[Row<C>]) -> Option<C::Label>
+        ensures { result ≡ least_sum (problem C.Cost N.Network E.Estimates self.now) (standing self.now own.now) }
+    {
+        let forward = self.front(own, Side::Forward);
+        let backward = self.front(own, Side::Backward);
+        key_sum::<C>(forward, backward)
+    }
+
     /// Whether the search is ended.
     fn ended(&self, own: &[Row<C>]) -> bool
         ensures { result ≡ ended (problem C.Cost N.Network E.Estimates self.now) (standing self.now own.now) }
     {
-        let sum = key_sum::<C>(
-            self.front(own, Side::Forward),
-            self.front(own, Side::Backward),
-        );
-        within::<C>(twice::<C>(self.ceiling), sum)
+        within::<C>(twice::<C>(self.ceiling), self.least_sum(own))
     }
 
     /// The smaller of the sum of the least keys and twice the ceiling.
     fn floor(&self, own: &[Row<C>]) -> Option<C::Label>
         ensures { result ≡ floor (problem C.Cost N.Network E.Estimates self.now) (standing self.now own.now) }
     {
-        let sum = key_sum::<C>(
-            self.front(own, Side::Forward),
-            self.front(own, Side::Backward),
-        );
-        smaller::<C>(sum, twice::<C>(self.ceiling))
+        smaller::<C>(self.least_sum(own), twice::<C>(self.ceiling))
     }
 
     /// Whether rows hold every label that taking the front would write.
@@ -125,7 +132,7 @@ impl<C: Cost, N: Network<C>, E: Estimates<C>> Running<C, N, E> {
         requires long { (N.Network.meaning self.now.net).stations ≤ length own.now }
         requires inside { front.now.station < length own.now }
         requires held { C.Cost.ops.size front.now.label < 2 ^ 44 }
-        ensures { result ≡ is_some (spread C.Cost (N.Network.meaning self.now.net) side front.now.label (starters side (N.Network.meaning self.now.net) front.now.station) (closing side front.now (standing self.now own.now))) }
+        ensures { result ≡ is_some (gone_through (problem C.Cost N.Network E.Estimates self.now) side front.now (standing self.now own.now)) }
     {
         if C::size(front.label) <= LIGHT {
             return true;
@@ -147,9 +154,9 @@ impl<C: Cost, N: Network<C>, E: Estimates<C>> Running<C, N, E> {
         requires long { (N.Network.meaning self.old.net).stations ≤ length own.old }
         requires inside { front.station < length own.old }
         requires few { self.old.taken < 4096 }
-        requires fits { is_some (spread C.Cost (N.Network.meaning self.old.net) side front.label (starters side (N.Network.meaning self.old.net) front.station) (closing side front (standing self.old own.old))) ≡ true }
-        ensures exact { Some (standing self.new own.new) ≡ option_map (after (standing self.old own.old)) (spread C.Cost (N.Network.meaning self.old.net) side front.label (starters side (N.Network.meaning self.old.net) front.station) (closing side front (standing self.old own.old))) }
-        ensures kept { Kept self.old self.new }
+        requires fits { is_some (gone_through (problem C.Cost N.Network E.Estimates self.old) side front (standing self.old own.old)) ≡ true }
+        ensures exact { Some (standing self.new own.new) ≡ option_map (after (standing self.old own.old)) (gone_through (problem C.Cost N.Network E.Estimates self.old) side front (standing self.old own.old)) }
+        ensures kept { (self.new.net ≡ self.old.net) × (self.new.estimates ≡ self.old.estimates) }
     {
         let mark = Mark {
             label: front.label,
@@ -170,8 +177,7 @@ impl<C: Cost, N: Network<C>, E: Estimates<C>> Running<C, N, E> {
 
     /// Takes the open station of least key on a side, and goes along its sections. Turned down, it changes nothing.
     fn step(&mut self, sheet: &mut [Row<C>], side: Side) -> Result<(), Fault>
-        ensures exact { record { answer = result; state = standing self.new sheet.new } ≡ step (problem C.Cost N.Network E.Estimates self.old) (standing self.old sheet.old) side }
-        ensures kept { Kept self.old self.new }
+        ensures exact { record { answer = result; search = self.new; sheet = sheet.new } ≡ step_of C.Cost N.Network E.Estimates side self.old sheet.old }
     {
         let rows = sheet.len();
         let foreign = foreign(rows);
@@ -191,7 +197,7 @@ impl<C: Cost, N: Network<C>, E: Estimates<C>> Running<C, N, E> {
     }
 
     fn begin(net: N, estimates: E, sheet: &mut [Row<C>]) -> Result<Self, Unopened<N, E>>
-        ensures { record { answer = result; sheet = sheet.new } ≡ opening (posed C.Cost N.Network E.Estimates net estimates) net estimates sheet.old }
+        ensures { record { answer = result; sheet = sheet.new } ≡ open_of C.Cost N.Network E.Estimates net estimates sheet.old }
     {
         if let Some(refusal) = unfit::<C, N, E>(&net, &estimates, sheet.len()) {
             return Err(Unopened {
@@ -212,7 +218,7 @@ impl<C: Cost, N: Network<C>, E: Estimates<C>> Running<C, N, E> {
     }
 
     fn known(&self, sheet: &[Row<C>]) -> Result<Bounds<C::Label>, Fault>
-        ensures { result ≡ bounds (problem C.Cost N.Network E.Estimates self.now) (standing self.now sheet.now) }
+        ensures { result ≡ bounds_of C.Cost N.Network E.Estimates self.now sheet.now }
     {
         let Some(own) = sheet.get(..self.net.stations()) else {
             return Err(foreign(sheet.len()));
@@ -237,7 +243,7 @@ impl<C: Cost, N: Network<C>, E: Estimates<C>> Running<C, N, E> {
     }
 
     fn conclude(self, sheet: &[Row<C>]) -> Result<Finished<C, N, E>, Unfinished<C, N, E>>
-        ensures { result ≡ finish (problem C.Cost N.Network E.Estimates self) self sheet.now }
+        ensures { result ≡ finish_of C.Cost N.Network E.Estimates self sheet.now }
     {
         if let Some(fault) = self.unfinished(sheet) {
             return Err(Unfinished {
@@ -279,10 +285,11 @@ fn promised<C: Cost, N: Network<C>, E: Estimates<C>>(net: &N, estimates: &E)
 impl<C: Cost, N: Network<C>, E: Estimates<C>> Running<C, N, E> {
     /// Opens a search over a sheet: the launcher is open forward, and the trap backward. Turned down, it gives network and
     /// estimates back, and writes nothing.
-    // The estimates are consistent then; else the fault names the first section that breaks them, forward side first.
     pub fn open(net: N, estimates: E, sheet: &mut [Row<C>]) -> Result<Self, Unopened<N, E>>
-        ensures exact { record { answer = result; sheet = sheet.new } ≡ opening (posed C.Cost N.Network E.Estimates net estimates) net estimates sheet.old }
-        ensures sound { OpenSound (posed C.Cost N.Network E.Estimates net estimates) result sheet.new }
+        // The answer and the sheet, on every input.
+        ensures exact { record { answer = result; sheet = sheet.new } ≡ open_of C.Cost N.Network E.Estimates net estimates sheet.old }
+        // Accepted, the estimates are consistent and the search has its sheet to itself; else they break where it says.
+        ensures stands { OpenStands C.Cost N.Network E.Estimates net estimates result sheet.new }
     {
         promised::<C, N, E>(&net, &estimates);
         Running::begin(net, estimates, sheet)
@@ -290,10 +297,9 @@ impl<C: Cost, N: Network<C>, E: Estimates<C>> Running<C, N, E> {
 
     /// Takes the open station of least key on a side, and goes along its sections. Turned down, it changes nothing.
     fn advance(&mut self, sheet: &mut [Row<C>], side: Side) -> Result<(), Fault>
-        ensures exact { record { answer = result; state = standing self.new sheet.new } ≡ step (problem C.Cost N.Network E.Estimates self.old) (standing self.old sheet.old) side }
-        ensures kept { Kept self.old self.new }
+        ensures exact { record { answer = result; search = self.new; sheet = sheet.new } ≡ step_of C.Cost N.Network E.Estimates side self.old sheet.old }
         ensures rule { OnOk result (StepRule (problem C.Cost N.Network E.Estimates self.old) side (standing self.old sheet.old) (standing self.new sheet.new)) }
-        ensures sound { (calls : List Call) → Own (problem C.Cost N.Network E.Estimates self.old) calls (standing self.old sheet.old) → StepSound (problem C.Cost N.Network E.Estimates self.old) calls side (standing self.old sheet.old) (standing self.new sheet.new) result }
+        ensures stands { (calls : List Call) → HasItsSheet C.Cost N.Network E.Estimates calls self.old sheet.old → StepStands C.Cost N.Network E.Estimates calls side self.old sheet.old result self.new sheet.new }
     {
         promised::<C, N, E>(&self.net, &self.estimates);
         self.step(sheet, side)
@@ -301,28 +307,34 @@ impl<C: Cost, N: Network<C>, E: Estimates<C>> Running<C, N, E> {
 
     /// Takes the open station of least forward key, and goes along the sections that leave it.
     pub fn forward(&mut self, sheet: &mut [Row<C>]) -> Result<(), Fault>
-        ensures exact { record { answer = result; state = standing self.new sheet.new } ≡ step (problem C.Cost N.Network E.Estimates self.old) (standing self.old sheet.old) Forward }
-        ensures kept { Kept self.old self.new }
+        // The answer, the search and the sheet, on every input.
+        ensures exact { record { answer = result; search = self.new; sheet = sheet.new } ≡ step_of C.Cost N.Network E.Estimates Forward self.old sheet.old }
+        // Accepted, it takes the open station of least key, and changes what the rule says, and nothing else.
         ensures rule { OnOk result (StepRule (problem C.Cost N.Network E.Estimates self.old) Forward (standing self.old sheet.old) (standing self.new sheet.new)) }
-        ensures sound { (calls : List Call) → Own (problem C.Cost N.Network E.Estimates self.old) calls (standing self.old sheet.old) → StepSound (problem C.Cost N.Network E.Estimates self.old) calls Forward (standing self.old sheet.old) (standing self.new sheet.new) result }
+        // After any list of calls all that is claimed stands, before and after it, and only an ended search turns it down.
+        ensures stands { (calls : List Call) → HasItsSheet C.Cost N.Network E.Estimates calls self.old sheet.old → StepStands C.Cost N.Network E.Estimates calls Forward self.old sheet.old result self.new sheet.new }
     {
         self.advance(sheet, Side::Forward)
     }
 
     /// Takes the open station of least backward key, and goes along the sections that enter it.
     pub fn backward(&mut self, sheet: &mut [Row<C>]) -> Result<(), Fault>
-        ensures exact { record { answer = result; state = standing self.new sheet.new } ≡ step (problem C.Cost N.Network E.Estimates self.old) (standing self.old sheet.old) Backward }
-        ensures kept { Kept self.old self.new }
+        // The answer, the search and the sheet, on every input.
+        ensures exact { record { answer = result; search = self.new; sheet = sheet.new } ≡ step_of C.Cost N.Network E.Estimates Backward self.old sheet.old }
+        // Accepted, it takes the open station of least key, and changes what the rule says, and nothing else.
         ensures rule { OnOk result (StepRule (problem C.Cost N.Network E.Estimates self.old) Backward (standing self.old sheet.old) (standing self.new sheet.new)) }
-        ensures sound { (calls : List Call) → Own (problem C.Cost N.Network E.Estimates self.old) calls (standing self.old sheet.old) → StepSound (problem C.Cost N.Network E.Estimates self.old) calls Backward (standing self.old sheet.old) (standing self.new sheet.new) result }
+        // After any list of calls all that is claimed stands, before and after it, and only an ended search turns it down.
+        ensures stands { (calls : List Call) → HasItsSheet C.Cost N.Network E.Estimates calls self.old sheet.old → StepStands C.Cost N.Network E.Estimates calls Backward self.old sheet.old result self.new sheet.new }
     {
         self.advance(sheet, Side::Backward)
     }
 
     /// What is known of the least cost.
     pub fn bounds(&self, sheet: &[Row<C>]) -> Result<Bounds<C::Label>, Fault>
-        ensures exact { result ≡ bounds (problem C.Cost N.Network E.Estimates self.now) (standing self.now sheet.now) }
-        ensures sound { (calls : List Call) → Own (problem C.Cost N.Network E.Estimates self.now) calls (standing self.now sheet.now) → BoundsSound (problem C.Cost N.Network E.Estimates self.now) calls (standing self.now sheet.now) result }
+        // The answer, on every input.
+        ensures exact { result ≡ bounds_of C.Cost N.Network E.Estimates self.now sheet.now }
+        // After any list of calls, twice every route's cost is at least the floor, and some route costs the ceiling.
+        ensures stands { (calls : List Call) → HasItsSheet C.Cost N.Network E.Estimates calls self.now sheet.now → BoundsStand C.Cost N.Network E.Estimates calls self.now sheet.now result }
     {
         promised::<C, N, E>(&self.net, &self.estimates);
         self.known(sheet)
@@ -330,11 +342,56 @@ impl<C: Cost, N: Network<C>, E: Estimates<C>> Running<C, N, E> {
 
     /// Ends a search: it found a route, or there is none. Turned down, it gives the search back.
     pub fn finish(self, sheet: &[Row<C>]) -> Result<Finished<C, N, E>, Unfinished<C, N, E>>
-        ensures exact { result ≡ finish (problem C.Cost N.Network E.Estimates self) self sheet.now }
-        ensures sound { (calls : List Call) → Own (problem C.Cost N.Network E.Estimates self) calls (standing self sheet.now) → FinishSound (problem C.Cost N.Network E.Estimates self) calls (standing self sheet.now) result }
+        // The answer, on every input.
+        ensures exact { result ≡ finish_of C.Cost N.Network E.Estimates self sheet.now }
+        // After any list of calls it answers the cost of a route that no route undercuts, or none exactly if there is none.
+        ensures stands { (calls : List Call) → HasItsSheet C.Cost N.Network E.Estimates calls self sheet.now → FinishStands C.Cost N.Network E.Estimates calls self sheet.now result }
     {
         promised::<C, N, E>(&self.net, &self.estimates);
         self.conclude(sheet)
+    }
+}
+
+impl<C: Cost, N, E> Found<C, N, E> {
+    /// The cost of the route.
+    pub fn cost(&self) -> C::Label
+        ensures { result ≡ self.now.cost }
+    {
+        self.cost
+    }
+
+    /// How many stations were taken, both ends together.
+    pub fn taken(&self) -> usize
+        ensures { result ≡ self.now.taken }
+    {
+        self.taken
+    }
+}
+
+impl<N, E> NoRoute<N, E> {
+    /// How many stations were taken, both ends together.
+    pub fn taken(&self) -> usize
+        ensures { result ≡ self.now.taken }
+    {
+        self.taken
+    }
+}
+
+/// The fault of a refused Open, passed on whole.
+impl<N: Drop, E: Drop> From<Unopened<N, E>> for Fault {
+    ghost from_gives = { λ refused fault. fault ≡ refused.fault };
+
+    fn from(refused: Unopened<N, E>) -> Fault {
+        refused.fault
+    }
+}
+
+/// The fault of a refused Finish, passed on whole.
+impl<C: Cost, N: Drop, E: Drop> From<Unfinished<C, N, E>> for Fault {
+    ghost from_gives = { λ refused fault. fault ≡ refused.fault };
+
+    fn from(refused: Unfinished<C, N, E>) -> Fault {
+        refused.fault
     }
 }
 

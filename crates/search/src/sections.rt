@@ -6,12 +6,12 @@ ghost use Rattle.optimality.specs.Problems.{head};
 ghost use Rattle.optimality.specs.Search.{reach, along, spread};
 ghost use Rattle.optimality.specs.Sheets.{put};
 
-use crate::amounts_of::{fits_row, improves, mark_at, met};
+use crate::labels::{fits_row, improves, mark_at, met};
 use amounts::cost::Cost;
 use faults::Side;
 use networks::network::Network;
 use networks::section::Section;
-use optimality::sheet::{Ceiling, Mark, Row, opposite};
+use optimality::sheet::{Ceiling, Mark, Row};
 
 /// The station to which a side goes along a section.
 pub fn head<A>(side: Side, section: &Section<A>) -> usize
@@ -48,7 +48,7 @@ fn reach<C: Cost>(
     if !improves::<C>(candidate, mark_at::<C>(rows, side, to)) {
         return ceiling;
     }
-    let there = mark_at::<C>(rows, opposite(side), to);
+    let there = mark_at::<C>(rows, side.opposite(), to);
     let mark = Mark {
         label: candidate,
         arrival: Some(number),

@@ -1,6 +1,6 @@
 use Rattle.std.proofs.Common.{false, sym, arith}
+use Rattle.faults.specs.Faults.{opposite}
 use Rattle.networks.specs.Nets.{starters}
-use Rattle.optimality.specs.Sheets.{opposite}
 use Rattle.optimality.proofs.Ranges.{section_fit, tail_within}
 use Rattle.search.specs.Calls.{standing}
 use Rattle.search.proofs.Spreads.{spread_light}
