@@ -1,8 +1,8 @@
 //! What searches find.
-use crate::drawn::{ended, five_stations, open, page, pair, pairs, pipes, sheet, view};
+use crate::drawn::{ended, five_stations, open, page, pair, pairs, pipes, sheet, step, view};
 use amounts::cost::Cost;
 use amounts::kinds::{Moves, MovesLabel, Samples};
-use faults::Fault;
+use faults::{Fault, Side};
 use networks::blank::Blank;
 use networks::estimates::Estimates;
 use networks::network::Network;
@@ -106,9 +106,10 @@ fn no_open_section_to_the_trap(rt: HostRuntime) -> Result<(), Fail> {
 fn launcher_and_trap_in_one(rt: HostRuntime) -> Result<(), Fail> {
     let page = page::<Samples>(rt.alloc(), 0, &pipes(), &pairs())?;
     let mut sheet = sheet::<5>();
-    let mut search = open(&page, &mut sheet)?;
-    assert_eq!(rt; search.forward(&mut sheet), Err(ended(0)));
-    assert_eq!(rt; search.backward(&mut sheet), Err(ended(0)));
+    let mut search = open(&page, &page, &mut sheet)?;
+    for side in [Side::Forward, Side::Backward] {
+        assert_eq!(rt; step(&mut search, &mut sheet, side), Err(ended(0)));
+    }
     let Ok(finished) = search.finish(&sheet) else {
         return Err(Fail::new("not ended"));
     };

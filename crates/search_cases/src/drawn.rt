@@ -1,7 +1,7 @@
 //! Small networks as pages, and sheets and searches over them.
 use amounts::cost::{Cost, LabelForm, SectionForm};
 use amounts::kinds::Samples;
-use faults::{Fault, Layer, Refusal};
+use faults::{Fault, Layer, Refusal, Side};
 use optimality::sheet::{Ceiling, Mark, Row};
 use pages::read::{blank, read};
 use pages::view::PageView;
@@ -90,20 +90,42 @@ pub(crate) fn view<C: Cost>(page: &[u8]) -> Result<PageView<'_, C>, Fault> {
     Ok(view)
 }
 
-/// A search over what a page tells, in samples.
+/// A search over what pages tell, in samples.
 pub(crate) type PageSearch<'a> = Running<Samples, PageView<'a, Samples>, PageView<'a, Samples>>;
 
-/// Opens a search over what a page tells.
+/// Opens a search over the network of one page and the estimates of another, which may be the same.
 pub(crate) fn open<'a>(
-    page: &'a [u8],
+    net: &'a [u8],
+    estimates: &'a [u8],
     sheet: &mut [Row<Samples>],
 ) -> Result<PageSearch<'a>, Fault> {
-    Ok(Running::open(view(page)?, view(page)?, sheet)?)
+    Ok(Running::open(view(net)?, view(estimates)?, sheet)?)
+}
+
+/// Takes a step, and answers the bounds after it.
+pub(crate) fn step(
+    search: &mut PageSearch<'_>,
+    sheet: &mut [Row<Samples>],
+    side: Side,
+) -> Result<Bounds<i64>, Fault> {
+    match side {
+        Side::Forward => search.forward(sheet)?,
+        Side::Backward => search.backward(sheet)?,
+    }
+    search.bounds(sheet)
 }
 
 /// A sheet that nobody has written.
 pub(crate) fn sheet<const ROWS: usize>() -> [Row<Samples>; ROWS] {
     array::from_fn(|_| Row::blank())
+}
+
+/// A side's mark at each station.
+pub(crate) fn marks<const ROWS: usize>(
+    sheet: &[Row<Samples>; ROWS],
+    side: Side,
+) -> [Option<Mark<i64>>; ROWS] {
+    array::from_fn(|station| sheet.get(station)?.mark(side))
 }
 
 /// An open mark, written by section `arrival` or at the opening.

@@ -1,10 +1,11 @@
 //! Sheets that another hand has written.
 use crate::drawn::{
-    between, closed_mark, ended, five_stations, floor, foreign, not_ended, open, open_mark, page,
-    pair, pipe, sheet,
+    between, closed_mark, ended, five_stations, floor, foreign, marks, not_ended, open, open_mark,
+    page, pair, pipe, sheet, step,
 };
 use amounts::kinds::Samples;
 use faults::Fault;
+use faults::Side::{Backward, Forward};
 use optimality::sheet::Mark;
 use records::kinds::SectionRecord;
 use search::running::Unfinished;
@@ -18,7 +19,7 @@ const MOST: i64 = (1 << 44) - 1;
 fn labels_that_no_row_holds(rt: HostRuntime) -> Result<(), Fail> {
     let page = five_stations(rt.alloc())?;
     let mut sheet = sheet::<5>();
-    let mut search = open(&page, &mut sheet)?;
+    let mut search = open(&page, &page, &mut sheet)?;
     let floors = [
         (MOST, 2 * MOST + 13),
         (-MOST, 13 - 2 * MOST),
@@ -30,10 +31,15 @@ fn labels_that_no_row_holds(rt: HostRuntime) -> Result<(), Fail> {
         sheet[0].forward = open_mark(label, None);
         assert_eq!(rt; search.bounds(&sheet), Ok(floor(amount)), "at {label}");
     }
-    assert_eq!(rt; search.forward(&mut sheet), Ok(()));
-    assert_eq!(rt; sheet[0].forward, closed_mark(0, None));
-    assert_eq!(rt; sheet[1].forward, open_mark(4, Some(0)));
-    assert_eq!(rt; search.bounds(&sheet), Ok(floor(14)));
+    assert_eq!(rt; step(&mut search, &mut sheet, Forward), Ok(floor(14)));
+    let forward = [
+        closed_mark(0, None),
+        open_mark(4, Some(0)),
+        open_mark(2, Some(1)),
+        None,
+        None,
+    ];
+    assert_eq!(rt; marks(&sheet, Forward), forward);
     Ok(())
 }
 
@@ -43,53 +49,57 @@ fn forward_from(
     heap: Global,
     label: i64,
     pipes: &[SectionRecord],
-) -> Result<(Result<(), Fault>, Option<Mark<i64>>, Option<Mark<i64>>), Fail> {
+) -> Result<(Result<(), Fault>, [Option<Mark<i64>>; 2]), Fail> {
     let page = page::<Samples>(heap, 2, pipes, &[pair(0, 0); 3])?;
     let mut sheet = sheet::<3>();
-    let mut search = open(&page, &mut sheet)?;
+    let mut search = open(&page, &page, &mut sheet)?;
     sheet[0].forward = open_mark(label, None);
     let answer = search.forward(&mut sheet);
-    Ok((answer, sheet[1].forward, sheet[2].forward))
+    let [_, first, second] = marks(&sheet, Forward);
+    Ok((answer, [first, second]))
 }
 
 #[test]
 fn labels_that_a_step_cannot_write(rt: HostRuntime) -> Result<(), Fail> {
-    let refused = (Err(foreign(3)), None, None);
-    let pipes = [pipe(0, 1, 4), pipe(0, 2, 2)];
-    assert_eq!(rt;
-        forward_from(rt.alloc(), MOST - 4, &pipes)?,
-        (
-            Ok(()),
-            open_mark(MOST, Some(0)),
-            open_mark(MOST - 2, Some(1))
-        )
-    );
-    assert_eq!(rt; forward_from(rt.alloc(), MOST - 3, &pipes)?, refused);
-    assert_eq!(rt; forward_from(rt.alloc(), MOST, &pipes)?, refused);
-    let pipes = [pipe(0, 2, 2), pipe(0, 1, 4)];
-    assert_eq!(rt; forward_from(rt.alloc(), MOST - 3, &pipes)?, refused);
-    let widest = [pipe(0, 1, u32::MAX)];
     let light = MOST - i64::from(u32::MAX);
-    assert_eq!(rt;
-        forward_from(rt.alloc(), light, &widest)?,
-        (Ok(()), open_mark(MOST, Some(0)), None)
-    );
-    assert_eq!(rt; forward_from(rt.alloc(), light + 1, &widest)?, refused);
-    Ok(())
-}
-
-#[test]
-fn parallel_sections(rt: HostRuntime) -> Result<(), Fail> {
-    let saved = [pipe(0, 1, 4), pipe(0, 1, 5)];
-    assert_eq!(rt;
-        forward_from(rt.alloc(), MOST - 4, &saved)?,
-        (Ok(()), open_mark(MOST, Some(0)), None)
-    );
-    let turned = [pipe(0, 1, 5), pipe(0, 1, 4)];
-    assert_eq!(rt;
-        forward_from(rt.alloc(), MOST - 4, &turned)?,
-        (Err(foreign(3)), None, None)
-    );
+    let written = [
+        (
+            MOST - 4,
+            [pipe(0, 1, 4), pipe(0, 2, 2)],
+            [open_mark(MOST, Some(0)), open_mark(MOST - 2, Some(1))],
+        ),
+        (
+            MOST - 4,
+            [pipe(0, 1, 4), pipe(0, 1, 5)],
+            [open_mark(MOST, Some(0)), None],
+        ),
+        (
+            light,
+            [pipe(0, 1, u32::MAX), pipe(0, 2, 0)],
+            [open_mark(MOST, Some(0)), open_mark(light, Some(1))],
+        ),
+    ];
+    for (label, pipes, marks) in written {
+        assert_eq!(rt;
+            forward_from(rt.alloc(), label, &pipes)?,
+            (Ok(()), marks),
+            "from {label}"
+        );
+    }
+    let refused = [
+        (MOST, [pipe(0, 1, 4), pipe(0, 2, 2)]),
+        (MOST - 3, [pipe(0, 1, 4), pipe(0, 2, 2)]),
+        (MOST - 3, [pipe(0, 2, 2), pipe(0, 1, 4)]),
+        (MOST - 4, [pipe(0, 1, 5), pipe(0, 1, 4)]),
+        (light + 1, [pipe(0, 1, u32::MAX), pipe(0, 2, 0)]),
+    ];
+    for (label, pipes) in refused {
+        assert_eq!(rt;
+            forward_from(rt.alloc(), label, &pipes)?,
+            (Err(foreign(3)), [None; 2]),
+            "from {label}"
+        );
+    }
     Ok(())
 }
 
@@ -97,12 +107,11 @@ fn parallel_sections(rt: HostRuntime) -> Result<(), Fail> {
 fn a_refused_step_changes_nothing(rt: HostRuntime) -> Result<(), Fail> {
     let page = five_stations(rt.alloc())?;
     let mut sheet = sheet::<5>();
-    let mut search = open(&page, &mut sheet)?;
-    sheet[0].forward = open_mark(MOST, Some(2));
-    assert_eq!(rt; search.forward(&mut sheet), Err(foreign(5)));
-    assert_eq!(rt; sheet[0].forward, open_mark(MOST, Some(2)));
-    assert!(rt; sheet[1..].iter().all(|row| row.forward.is_none()));
-    assert_eq!(rt; search.bounds(&sheet), Ok(floor(2 * MOST + 13)));
+    let mut search = open(&page, &page, &mut sheet)?;
+    sheet[4].backward = open_mark(MOST, Some(2));
+    assert_eq!(rt; step(&mut search, &mut sheet, Backward), Err(foreign(5)));
+    let backward = [None, None, None, None, open_mark(MOST, Some(2))];
+    assert_eq!(rt; marks(&sheet, Backward), backward);
     let Err(Unfinished { search, fault }) = search.finish(&sheet) else {
         return Err(Fail::new("finished before its end"));
     };
@@ -115,11 +124,11 @@ fn a_refused_step_changes_nothing(rt: HostRuntime) -> Result<(), Fail> {
 fn the_last_station_is_never_taken(rt: HostRuntime) -> Result<(), Fail> {
     let page = page::<Samples>(rt.alloc(), 0, &[], &[pair(0, 0)])?;
     let mut sheet = sheet::<1>();
-    let mut search = open(&page, &mut sheet)?;
-    assert_eq!(rt; search.forward(&mut sheet), Err(ended(0)));
+    let mut search = open(&page, &page, &mut sheet)?;
+    assert_eq!(rt; step(&mut search, &mut sheet, Forward), Err(ended(0)));
     sheet[0].forward = open_mark(-1, None);
     assert_eq!(rt; search.bounds(&sheet), Ok(between(-2, 0, 0)));
-    assert_eq!(rt; search.forward(&mut sheet), Err(foreign(1)));
-    assert_eq!(rt; sheet[0].forward, open_mark(-1, None));
+    assert_eq!(rt; step(&mut search, &mut sheet, Forward), Err(foreign(1)));
+    assert_eq!(rt; marks(&sheet, Forward), [open_mark(-1, None)]);
     Ok(())
 }
