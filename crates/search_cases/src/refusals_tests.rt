@@ -1,15 +1,14 @@
 //! What is turned down, and what then stays.
 use crate::drawn::{
-    PageSearch, between, five_stations, floor, foreign, marks, open, open_mark, page, pair, pairs,
-    pipes, sheet, step, view,
+    between, five_stations, floor, foreign, marks, open, open_mark, page, pair, pairs, pipes,
+    sheet, step, view,
 };
 use amounts::kinds::Samples;
 use faults::Side::{Backward, Forward};
 use faults::{Fault, Layer, Refusal, Side};
 use networks::estimates::{Estimates, Pair};
 use networks::network::Network;
-use optimality::sheet::Row;
-use search::running::{Running, Unfinished};
+use search::running::Running;
 use std::test::Fail;
 
 fn inconsistent(section: usize, side: Side) -> Fault {
@@ -26,7 +25,6 @@ fn estimates_that_fall_too_fast(rt: HostRuntime) -> Result<(), Fail> {
     assert_eq!(rt; search.bounds(&sheet), Ok(floor(14)));
     pairs[0] = pair(8, 0);
     let past_it = page::<Samples>(rt.alloc(), 4, &pipes(), &pairs)?;
-    let forward = [open_mark(-7, Some(3)), None, None, None, None];
     sheet[0].forward = open_mark(-7, Some(3));
     let opened = Running::open(view(&past_it)?, view(&past_it)?, &mut sheet);
     let Err(refused) = opened else {
@@ -41,6 +39,7 @@ fn estimates_that_fall_too_fast(rt: HostRuntime) -> Result<(), Fail> {
             backward: 0
         })
     );
+    let forward = [open_mark(-7, Some(3)), None, None, None, None];
     assert_eq!(rt; marks(&sheet, Forward), forward);
     Ok(())
 }
@@ -72,32 +71,24 @@ fn the_first_refusal_of_an_open(rt: HostRuntime) -> Result<(), Fail> {
     Ok(())
 }
 
-/// The faults of Forward, Backward, Bounds and Finish over a sheet that none of them takes, and the search after them.
-fn turned_down<'a>(
-    mut search: PageSearch<'a>,
-    sheet: &mut [Row<Samples>],
-) -> Option<([Option<Fault>; 4], PageSearch<'a>)> {
-    let forward = step(&mut search, sheet, Forward).err();
-    let backward = step(&mut search, sheet, Backward).err();
-    let bounds = search.bounds(sheet).err();
-    let Err(Unfinished { search, fault }) = search.finish(sheet) else {
-        return None;
-    };
-    Some(([forward, backward, bounds, Some(fault)], search))
-}
-
 #[test]
 fn too_short_a_sheet(rt: HostRuntime) -> Result<(), Fail> {
     let page = five_stations(rt.alloc())?;
     let mut sheet = sheet::<5>();
     let search = open(&page, &page, &mut sheet)?;
-    let (faults, mut search) = turned_down(search, &mut sheet[..4]).ok_or("finished")?;
-    assert_eq!(rt; faults, [Some(foreign(4)); 4]);
-    for bounds in [floor(14), floor(15), between(16, 8, 4)] {
-        assert_eq!(rt; step(&mut search, &mut sheet, Forward), Ok(bounds));
+    // a search that is not ended, and then the same one ended
+    let Err(refused) = search.finish(&sheet[..4]) else {
+        return Err(Fail::new("finished over four rows"));
+    };
+    assert_eq!(rt; refused.fault, foreign(4));
+    let mut search = refused.search;
+    for _ in 0..3 {
+        step(&mut search, &mut sheet, Forward)?;
     }
-    let (faults, search) = turned_down(search, &mut []).ok_or("finished")?;
-    assert_eq!(rt; faults, [Some(foreign(0)); 4]);
+    for side in [Forward, Backward] {
+        assert_eq!(rt; step(&mut search, &mut sheet[..3], side), Err(foreign(3)));
+    }
+    assert_eq!(rt; search.bounds(&sheet[..0]), Err(foreign(0)));
     assert_eq!(rt; search.bounds(&sheet), Ok(between(16, 8, 4)));
     Ok(())
 }
