@@ -61,6 +61,7 @@ fn forward_from(
 
 #[test]
 fn labels_that_a_step_cannot_write(rt: HostRuntime) -> Result<(), Fail> {
+    // from here the section of most samples leads to the largest label
     let light = MOST - i64::from(u32::MAX);
     let written = [
         (
