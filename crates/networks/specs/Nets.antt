@@ -3,6 +3,7 @@ use Rattle.std.specs.Prelude.{◌≡◌, ℕ, ◌+◌, ◌<◌, ◌≤◌, Bool,
 use Rattle.std.specs.List.{AllByRecursion, slice_get}
 use Rattle.amounts.specs.Forms.{SectionRange}
 use Rattle.amounts.specs.declared.cost.SectionForm.{SectionForm}
+use Rattle.faults.specs.Faults.{opposite}
 use Rattle.faults.specs.declared.Side.{Side}
 use Rattle.faults.specs.declared.Side.TheVariants.{Forward, Backward}
 use Rattle.networks.specs.declared.section.Section.{Section}
@@ -36,6 +37,10 @@ pub record InRange {S : Type 0} (parts : S → SectionForm) (net : Net S) : Type
 abbrev pub tail : {S : Type 0} → Side → Section S → ℕ
 tail Forward s = s.from
 tail Backward s = s.to
+
+-- the station to which a side goes along a section
+abbrev pub head : {S : Type 0} → Side → Section S → ℕ
+head side s = tail (opposite side) s
 
 -- whether the section leaves the station (forward) or enters it (backward)
 abbrev pub starts : {S : Type 0} → Side → ℕ → Section S → Bool

@@ -7,8 +7,8 @@ use Rattle.faults.specs.Faults.{opposite}
 use Rattle.faults.specs.declared.Side.{Side}
 use Rattle.faults.specs.declared.Side.TheVariants.{Forward, Backward}
 use Rattle.networks.specs.declared.section.Section.{Section}
-use Rattle.networks.specs.Nets.{tail}
-use Rattle.optimality.specs.Problems.{Problem, Fair, Consistent, Arc, head, guess}
+use Rattle.networks.specs.Nets.{tail, head}
+use Rattle.optimality.specs.Problems.{Problem, Fair, Consistent, Arc, guess}
 use Rattle.optimality.specs.Keys.{sum, difference, key}
 use Rattle.optimality.proofs.Group.{minus_plus, opposite_sum, drop_le, key_rises, key_half, key_pair}
 use Rattle.optimality.proofs.Invariant.{drop, key_at}

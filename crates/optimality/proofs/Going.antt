@@ -3,12 +3,12 @@ use Rattle.std.proofs.Common.{◌≡◌, ℕ, suc, true, false, true≢false, �
 use Rattle.amounts.specs.Amount.{Le}
 use Rattle.faults.specs.declared.Side.{Side}
 use Rattle.networks.specs.declared.section.Section.{Section}
-use Rattle.networks.specs.Nets.{tail}
+use Rattle.networks.specs.Nets.{tail, head}
 use Rattle.optimality.specs.declared.sheet.Mark.{Mark}
 use Rattle.optimality.specs.declared.sheet.Front.{Front}
 use Rattle.optimality.specs.declared.sheet.Ceiling.{Ceiling}
 use Rattle.optimality.specs.declared.sheet.Ceiling.TheVariants.{Absent, Met}
-use Rattle.optimality.specs.Problems.{Problem, Fair, Consistent, Arc, start, head}
+use Rattle.optimality.specs.Problems.{Problem, Fair, Consistent, Arc, start}
 use Rattle.optimality.specs.Keys.{opened_mark, sum, met}
 use Rattle.optimality.proofs.Marked.{On, Has, CeilLe}
 use Rattle.optimality.proofs.Having.{on_at, on_from, has_from, has_parts}

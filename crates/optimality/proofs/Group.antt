@@ -31,10 +31,6 @@ module _ {L : Type 0} {o : Ops L} (l : Laws o) where
       cancel _ _ e
       (l.assoc (o.minus e f) (o.minus f e) e ∙ ap (o.plus (o.minus e f)) (l.sub_add f e) ∙ l.sub_add e f ∙ sym (unit_left e))
 
-  -- twice a sum is the sum of what is twice
-  pub double_sum : (a b : L) → (a ⊕ b) ⊕ (a ⊕ b) ≡ (a ⊕ a) ⊕ (b ⊕ b)
-  double_sum a b = simp (l.assoc, left_comm)
-
   -- Order --------------------------------------------------------------------------------------
 
   -- equal amounts are at most each other
@@ -75,10 +71,6 @@ module _ {L : Type 0} {o : Ops L} (l : Laws o) where
   -- and the other way
   pub le_double : (a b : L) → Le o a b → Le o (a ⊕ a) (b ⊕ b)
   le_double a b h = le_add a b a b h h
-
-  -- what is at least zero only adds
-  pub le_more : (a c : L) → Le o o.zero c → Le o a (a ⊕ c)
-  le_more a c h = le_at a (a ⊕ c) (a ⊕ o.zero) (a ⊕ c) (le_left o.zero c a h) (sym (l.unit a)) refl
 
   -- a difference of at most c
   pub minus_le : (e f c : L) → Le o (o.minus e f) c → Le o e (c ⊕ f)

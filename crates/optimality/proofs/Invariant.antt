@@ -6,13 +6,13 @@ use Rattle.faults.specs.Faults.{opposite}
 use Rattle.faults.specs.declared.Side.{Side}
 use Rattle.faults.specs.declared.Side.TheVariants.{Forward, Backward}
 use Rattle.networks.specs.declared.section.Section.{Section}
-use Rattle.networks.specs.Nets.{tail}
+use Rattle.networks.specs.Nets.{tail, head}
 use Rattle.optimality.specs.declared.sheet.Mark.{Mark}
 use Rattle.optimality.specs.declared.sheet.Row.{Row}
 use Rattle.optimality.specs.declared.sheet.Ceiling.{Ceiling}
 use Rattle.optimality.specs.declared.sheet.Front.{Front}
 use Rattle.optimality.specs.Sheets.{is_closed, State}
-use Rattle.optimality.specs.Problems.{Problem, start, head, guess, Arc}
+use Rattle.optimality.specs.Problems.{Problem, start, guess, Arc}
 use Rattle.optimality.specs.Keys.{opened_mark}
 use Rattle.optimality.specs.Search.{mark_at}
 use Rattle.optimality.proofs.Marked.{On, Has, OnMet, CeilLe}

@@ -7,13 +7,13 @@ use Rattle.faults.specs.Faults.{opposite}
 use Rattle.faults.specs.declared.Side.{Side}
 use Rattle.faults.specs.declared.Side.TheVariants.{Forward, Backward}
 use Rattle.networks.specs.declared.section.Section.{Section}
-use Rattle.networks.specs.Nets.{tail}
+use Rattle.networks.specs.Nets.{tail, head}
 use Rattle.networks.specs.Routes.{Route}
 use Rattle.optimality.specs.declared.sheet.Mark.{Mark}
 use Rattle.optimality.specs.declared.sheet.Ceiling.{Ceiling}
 use Rattle.optimality.specs.declared.sheet.Ceiling.TheVariants.{Absent, Met}
 use Rattle.optimality.specs.Sheets.{State}
-use Rattle.optimality.specs.Problems.{Problem, Fair, Consistent, Arc, start, head, route_cost}
+use Rattle.optimality.specs.Problems.{Problem, Fair, Consistent, Arc, start, route_cost}
 use Rattle.optimality.specs.Keys.{twice}
 use Rattle.optimality.specs.Search.{mark_at, least_sum, floor, ended}
 use Rattle.optimality.proofs.Marked.{Has, OnMet, CeilLe}

@@ -6,10 +6,10 @@ use Rattle.std.specs.List.{slice_get}
 use Rattle.faults.specs.Faults.{opposite}
 use Rattle.faults.specs.declared.Side.{Side}
 use Rattle.networks.specs.declared.section.Section.{Section}
-use Rattle.networks.specs.Nets.{numbers, starts, starters, tail}
+use Rattle.networks.specs.Nets.{numbers, starts, starters, tail, head}
 use Rattle.optimality.specs.declared.sheet.Front.{Front}
 use Rattle.optimality.specs.Sheets.{is_closed, State}
-use Rattle.optimality.specs.Problems.{Problem, Fair, head}
+use Rattle.optimality.specs.Problems.{Problem, Fair}
 use Rattle.optimality.specs.Keys.{opened_mark, fits_row, seen, sum, improves}
 use Rattle.optimality.specs.Search.{mark_at, Spread, reach, along, spread, closing, after, front, taking}
 use Rattle.optimality.specs.Published.{IsNext, Candidate, Relabelled, Stays, Meets, Lowered, TakenByRule}

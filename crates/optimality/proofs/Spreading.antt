@@ -8,14 +8,14 @@ use Rattle.amounts.specs.declared.cost.Cost as cost
 use Rattle.faults.specs.Faults.{opposite}
 use Rattle.faults.specs.declared.Side.{Side}
 use Rattle.networks.specs.declared.section.Section.{Section}
-use Rattle.networks.specs.Nets.{tail, starts, starters}
+use Rattle.networks.specs.Nets.{tail, starts, starters, head}
 use Rattle.networks.proofs.Rolls.{roll_of}
 use Rattle.optimality.specs.declared.sheet.Mark.{Mark}
 use Rattle.optimality.specs.declared.sheet.Row.{Row}
 use Rattle.optimality.specs.declared.sheet.Front.{Front}
 use Rattle.optimality.specs.declared.sheet.Ceiling.{Ceiling}
 use Rattle.optimality.specs.Sheets.{is_closed, put, State}
-use Rattle.optimality.specs.Problems.{Problem, Fair, Consistent, Arc, head}
+use Rattle.optimality.specs.Problems.{Problem, Fair, Consistent, Arc}
 use Rattle.optimality.specs.Keys.{opened_mark, sum, met, improves}
 use Rattle.optimality.specs.Search.{mark_at, Spread, reach, along, spread, closing}
 use Rattle.optimality.proofs.Marked.{On, Has}

@@ -1,7 +1,6 @@
 -- A front is taken: the search stands after it, its ceiling has not risen, and its floor has not fallen.
-use Rattle.std.proofs.Common.{◌≡◌, ℕ, zero, suc, ◌+◌, ◌<◌, Bool, true, false, true≢false, ◌||◌, ⊎_elim, ◌==◌, List, length, Some, None, Option, sym, refl, ap, ap₂, ◌∙◌, subst, subst₂, arith}
-use Rattle.std.proofs.lemmas.Bool.{false_from_ne_true, or_left, or_right, cases_eq, lt-ltb, eq-eqb, ne_eqb}
-use Rattle.std.proofs.Math.Bool.{or_comm, or-false}
+use Rattle.std.proofs.Common.{◌≡◌, ℕ, zero, suc, ◌+◌, ◌<◌, Bool, true, false, true≢false, List, length, Some, None, Option, sym, refl, ap, ap₂, ◌∙◌, subst, subst₂, arith}
+use Rattle.std.proofs.lemmas.Bool.{false_from_ne_true, lt-ltb}
 use Rattle.amounts.specs.Amount.{Le}
 use Rattle.amounts.specs.declared.cost.Cost as cost
 use Rattle.faults.specs.Faults.{opposite}
@@ -47,28 +46,6 @@ pub record Takes {C L S : Type 0} (p : Problem C L S) (side : Side) (r : Front L
   pub closed : is_closed (mark_at p.kind result.rows side r.station) ≡ true
   pub elsewhere : (i : ℕ) → (i ≡ r.station → ⊥) → is_closed (mark_at p.kind result.rows side i) ≡ is_closed (mark_at p.kind st.rows side i)
   pub other : mark_at p.kind result.rows (opposite side) ≡ mark_at p.kind st.rows (opposite side)
-
--- whether a station is closed on either side
-abbrev pub either : {C L S : Type 0} → cost.Ghosts C L S → List (Row C L S) → ℕ → Bool
-either c rows i = is_closed (mark_at c rows Forward i) || is_closed (mark_at c rows Backward i)
-
--- whichever side comes first
-either_by : {C L S : Type 0} (c : cost.Ghosts C L S) (rows : List (Row C L S)) (side : Side) (i : ℕ) → either c rows i ≡ (is_closed (mark_at c rows side i) || is_closed (mark_at c rows (opposite side) i))
-either_by c rows Forward i = refl
-either_by c rows Backward i = or_comm (is_closed (mark_at c rows Forward i)) (is_closed (mark_at c rows Backward i))
-
--- the front's station is closed on either side now, besides those that were
-pub closes_one : {C L S : Type 0} (p : Problem C L S) (side : Side) (r : Front L) (st : State C L S) (n : Side → ℕ) (t : Takes p side r st n) (i : ℕ) → either p.kind t.result.rows i ≡ (either p.kind st.rows i || i == r.station)
-closes_one p side r st n t i =
-    either_by p.kind t.result.rows side i
-    ∙ ⊎_elim
-    (λ e. or_left _ _ (ap (λ j. is_closed (mark_at p.kind t.result.rows side j)) e ∙ t.closed) ∙ sym (or_right _ _ (eq-eqb i r.station e)))
-    (λ ne.
-    ap₂ (λ a b. a || b) (t.elsewhere i ne) (ap (λ f. is_closed (f i)) t.other)
-    ∙ sym (either_by p.kind st.rows side i)
-    ∙ sym (or-false _)
-    ∙ ap (λ b. either p.kind st.rows i || b) (sym (ne_eqb i r.station ne)))
-    (cases_eq i r.station)
 
 -- the same marks have the same front
 least_same : {C L S : Type 0} (c : cost.Ghosts C L S) (estimates : List (Pair L)) (side : Side) (old new : List (Row C L S)) → mark_at c new side ≡ mark_at c old side → (n : ℕ) → least c estimates new side n ≡ least c estimates old side n

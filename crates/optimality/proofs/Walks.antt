@@ -6,9 +6,9 @@ use Rattle.faults.specs.Faults.{opposite}
 use Rattle.faults.specs.declared.Side.{Side}
 use Rattle.faults.specs.declared.Side.TheVariants.{Forward, Backward}
 use Rattle.networks.specs.declared.section.Section.{Section}
-use Rattle.networks.specs.Nets.{tail}
+use Rattle.networks.specs.Nets.{tail, head}
 use Rattle.networks.specs.Routes.{Joins, worth_in}
-use Rattle.optimality.specs.Problems.{Problem, Fair, Arc, start, head, route_cost}
+use Rattle.optimality.specs.Problems.{Problem, Fair, Arc, start, route_cost}
 use Rattle.optimality.proofs.Marked.{On}
 use Rattle.optimality.proofs.Having.{has_parts, has_from, on_at}
 use Rattle.optimality.proofs.Group.{unit_left}

@@ -8,7 +8,7 @@ use Rattle.faults.specs.declared.Side.{Side}
 use Rattle.faults.specs.declared.Side.TheVariants.{Forward, Backward}
 use Rattle.networks.specs.declared.section.Section.{Section}
 use Rattle.networks.specs.declared.estimates.Pair.{Pair}
-use Rattle.networks.specs.Nets.{Net, tail}
+use Rattle.networks.specs.Nets.{Net, tail, head}
 use Rattle.networks.specs.Routes.{cost_of}
 
 -- a kind of cost, what a network means, and what a source of estimates means
@@ -21,10 +21,6 @@ pub record Problem (C L S : Type 0) : Type 1 where
 abbrev pub start : {S : Type 0} → Net S → Side → ℕ
 start net Forward = net.launcher
 start net Backward = net.trap
-
--- the station to which a side goes along a section
-abbrev pub head : {S : Type 0} → Side → Section S → ℕ
-head side s = tail (opposite side) s
 
 abbrev pub of_pair : {L : Type 0} → Side → Pair L → L
 of_pair Forward e = e.forward

@@ -5,14 +5,14 @@ use Rattle.amounts.specs.Amount.{Le}
 use Rattle.faults.specs.Faults.{opposite}
 use Rattle.faults.specs.declared.Side.{Side}
 use Rattle.networks.specs.declared.section.Section.{Section}
-use Rattle.networks.specs.Nets.{tail}
+use Rattle.networks.specs.Nets.{tail, head}
 use Rattle.optimality.specs.declared.sheet.Mark.{Mark}
 use Rattle.optimality.specs.declared.sheet.Row.{Row}
 use Rattle.optimality.specs.declared.sheet.Front.{Front}
 use Rattle.optimality.specs.declared.sheet.Ceiling.{Ceiling}
 use Rattle.optimality.specs.declared.sheet.Ceiling.TheVariants.{Absent, Met}
 use Rattle.optimality.specs.Sheets.{State}
-use Rattle.optimality.specs.Problems.{Problem, Arc, head}
+use Rattle.optimality.specs.Problems.{Problem, Arc}
 use Rattle.optimality.specs.Keys.{opened_mark, sum, key, within, improves}
 use Rattle.optimality.specs.Search.{mark_in, mark_at}
 

@@ -7,14 +7,14 @@ use Rattle.faults.specs.declared.Side.{Side}
 use Rattle.faults.specs.declared.Side.TheVariants.{Forward, Backward}
 use Rattle.networks.specs.declared.section.Section.{Section}
 use Rattle.networks.specs.declared.estimates.Pair.{Pair}
-use Rattle.networks.specs.Nets.{Net, starters}
+use Rattle.networks.specs.Nets.{Net, starters, head}
 use Rattle.optimality.specs.declared.sheet.Mark.{Mark}
 use Rattle.optimality.specs.declared.sheet.Row.{Row}
 use Rattle.optimality.specs.declared.sheet.Front.{Front}
 use Rattle.optimality.specs.declared.sheet.Ceiling.{Ceiling}
 use Rattle.optimality.specs.declared.sheet.Ceiling.TheVariants.{Absent, Met}
 use Rattle.optimality.specs.Sheets.{mark_on, put, State}
-use Rattle.optimality.specs.Problems.{Problem, head}
+use Rattle.optimality.specs.Problems.{Problem}
 use Rattle.optimality.specs.Keys.{opened_mark, sum, fits_row, seen, front_of, nearer, within, smaller, key_sum, twice, met, improves, first_mark}
 
 -- what a station's row says of a side; nothing where there is no row

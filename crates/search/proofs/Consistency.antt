@@ -10,8 +10,8 @@ use Rattle.faults.specs.Faults.{number_of}
 use Rattle.faults.specs.declared.Refusal.{Refusal}
 use Rattle.faults.specs.declared.Refusal.TheVariants.{Inconsistent, TooFewRows, EstimateCount}
 use Rattle.networks.specs.declared.section.Section.{Section}
-use Rattle.networks.specs.Nets.{tail}
-use Rattle.optimality.specs.Problems.{Problem, Fair, Consistent, head, guess}
+use Rattle.networks.specs.Nets.{tail, head}
+use Rattle.optimality.specs.Problems.{Problem, Fair, Consistent, guess}
 use Rattle.optimality.specs.Keys.{breaks, difference, at_most}
 use Rattle.optimality.proofs.Exact.{difference_is}
 use Rattle.optimality.proofs.Sides.{sides_differ}

@@ -9,12 +9,11 @@ use Rattle.amounts.specs.declared.cost.Cost as cost
 use Rattle.faults.specs.Faults.{opposite}
 use Rattle.faults.specs.declared.Side.{Side}
 use Rattle.networks.specs.declared.section.Section.{Section}
-use Rattle.networks.specs.Nets.{Net, starters}
+use Rattle.networks.specs.Nets.{Net, starters, head}
 use Rattle.networks.proofs.Numbers.{past_nth}
 use Rattle.optimality.specs.declared.sheet.Mark.{Mark}
 use Rattle.optimality.specs.declared.sheet.Front.{Front}
 use Rattle.optimality.specs.Sheets.{State, put}
-use Rattle.optimality.specs.Problems.{head}
 use Rattle.optimality.specs.Keys.{opened_mark, at_most, fits_row, improves, met}
 use Rattle.optimality.specs.Search.{Spread, mark_at, along, spread, closing}
 use Rattle.optimality.proofs.Putting.{Puts, puts_ind, put_puts, length-put}

@@ -7,9 +7,8 @@ use Rattle.amounts.specs.Amount.{Laws, fits}
 use Rattle.amounts.specs.declared.cost.Cost as cost
 use Rattle.faults.specs.declared.Side.{Side}
 use Rattle.networks.specs.declared.section.Section.{Section}
-use Rattle.networks.specs.Nets.{Net, numbers, starts, starters}
+use Rattle.networks.specs.Nets.{Net, numbers, starts, starters, head}
 use Rattle.networks.proofs.Numbers.{drop_nth, past_nth}
-use Rattle.optimality.specs.Problems.{head}
 use Rattle.optimality.specs.Keys.{sum, fits_row, improves}
 use Rattle.optimality.specs.Search.{Spread, mark_at, along, spread}
 

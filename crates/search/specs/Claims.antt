@@ -19,13 +19,13 @@ use Rattle.faults.specs.declared.Side.TheVariants.{Forward, Backward}
 use Rattle.faults.specs.declared.Fault.{Fault}
 use Rattle.faults.specs.declared.Refusal.TheVariants.{Ended, Inconsistent}
 use Rattle.networks.specs.declared.section.Section.{Section}
-use Rattle.networks.specs.Nets.{tail}
+use Rattle.networks.specs.Nets.{tail, head}
 use Rattle.networks.specs.Routes.{Route}
 use Rattle.optimality.specs.declared.sheet.Row.{Row}
 use Rattle.optimality.specs.declared.sheet.Front.{Front}
 use Rattle.optimality.specs.declared.sheet.Ceiling.TheVariants.{Absent, Met}
 use Rattle.optimality.specs.Sheets.{is_closed, State}
-use Rattle.optimality.specs.Problems.{Problem, Arc, Consistent, head, guess, route_cost}
+use Rattle.optimality.specs.Problems.{Problem, Arc, Consistent, guess, route_cost}
 use Rattle.optimality.specs.Keys.{within}
 use Rattle.optimality.specs.Search.{mark_in}
 use Rattle.optimality.specs.Published.{amount_of, TakenByRule}

@@ -4,11 +4,10 @@ use Rattle.std.specs.List.{slice_get}
 use Rattle.amounts.specs.declared.cost.Cost as cost
 use Rattle.faults.specs.declared.Side.{Side}
 use Rattle.networks.specs.declared.section.Section.{Section}
-use Rattle.networks.specs.Nets.{Net, starters}
+use Rattle.networks.specs.Nets.{Net, starters, head}
 use Rattle.optimality.specs.declared.sheet.Mark.{Mark}
 use Rattle.optimality.specs.declared.sheet.Row.{Row}
 use Rattle.optimality.specs.Search.{mark_at}
-use Rattle.optimality.specs.Problems.{head}
 use Rattle.optimality.specs.Keys.{opened_mark, sum, fits_row, improves}
 
 module _ {C L S : Type 0} (c : cost.Ghosts C L S) (side : Side) (label : L) where

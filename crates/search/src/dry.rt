@@ -6,7 +6,6 @@ ghost use Rattle.optimality.specs.Search.{mark_at};
 ghost use Rattle.search.specs.Replay.{mark_by, mark_after, large_at};
 
 use crate::labels::{fits_row, improves, mark_at};
-use crate::sections::head;
 use amounts::cost::Cost;
 use faults::Side;
 use networks::network::Network;
@@ -28,7 +27,7 @@ fn mark_by<C: Cost, N: Network<C>>(
         return mark;
     };
     let candidate = C::sum(label, C::worth(section.amount));
-    if section.shut || head(side, &section) != to || !improves::<C>(candidate, mark) {
+    if section.shut || section.head(side) != to || !improves::<C>(candidate, mark) {
         return mark;
     }
     Some(Mark {
@@ -80,7 +79,7 @@ pub fn too_large<C: Cost, N: Network<C>>(
     if section.shut || fits_row::<C>(candidate) {
         return false;
     }
-    let to = head(side, &section);
+    let to = section.head(side);
     if to == station {
         return false;
     }

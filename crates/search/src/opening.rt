@@ -7,7 +7,6 @@ ghost use Rattle.optimality.specs.Search.{first_row};
 ghost use Rattle.search.specs.Calls.{posed, first_broken, unfit};
 
 use crate::fronts::estimate;
-use crate::sections::head;
 use amounts::cost::Cost;
 use faults::{Refusal, Side};
 use networks::estimates::Estimates;
@@ -23,8 +22,8 @@ fn breaks<C: Cost, E: Estimates<C>>(
 ) -> bool
     ensures { result ≡ breaks C.Cost (E.Estimates.meaning estimates.now) side section.now }
 {
-    let near = estimate::<C, E>(estimates, side, head(side.opposite(), section));
-    let far = estimate::<C, E>(estimates, side, head(side, section));
+    let near = estimate::<C, E>(estimates, side, section.tail(side));
+    let far = estimate::<C, E>(estimates, side, section.head(side));
     !section.shut && !C::at_most(C::difference(near, far), C::worth(section.amount))
 }
 

@@ -288,7 +288,7 @@ impl<C: Cost, N: Network<C>, E: Estimates<C>> Running<C, N, E> {
     pub fn open(net: N, estimates: E, sheet: &mut [Row<C>]) -> Result<Self, Unopened<N, E>>
         // The answer and the sheet, on every input.
         ensures exact { record { answer = result; sheet = sheet.new } ≡ open_of C.Cost N.Network E.Estimates net estimates sheet.old }
-        // Accepted, the estimates are consistent and the search has its sheet to itself; else they break where it says.
+        // Accepted, the estimates are consistent and the search has its sheet to itself; turned down by 7, they break where it says.
         ensures stands { OpenStands C.Cost N.Network E.Estimates net estimates result sheet.new }
     {
         promised::<C, N, E>(&net, &estimates);
@@ -353,6 +353,27 @@ impl<C: Cost, N: Network<C>, E: Estimates<C>> Running<C, N, E> {
 }
 
 impl<C: Cost, N, E> Found<C, N, E> {
+    /// The network that was searched.
+    pub fn network(&self) -> &N
+        ensures { result.now ≡ self.now.net }
+    {
+        &self.net
+    }
+
+    /// The estimates that were gone by.
+    pub fn estimates(&self) -> &E
+        ensures { result.now ≡ self.now.estimates }
+    {
+        &self.estimates
+    }
+
+    /// The station at which the two halves of the route meet.
+    pub fn meeting(&self) -> usize
+        ensures { result ≡ self.now.meeting }
+    {
+        self.meeting
+    }
+
     /// The cost of the route.
     pub fn cost(&self) -> C::Label
         ensures { result ≡ self.now.cost }
@@ -369,6 +390,20 @@ impl<C: Cost, N, E> Found<C, N, E> {
 }
 
 impl<N, E> NoRoute<N, E> {
+    /// The network that was searched.
+    pub fn network(&self) -> &N
+        ensures { result.now ≡ self.now.net }
+    {
+        &self.net
+    }
+
+    /// The estimates that were gone by.
+    pub fn estimates(&self) -> &E
+        ensures { result.now ≡ self.now.estimates }
+    {
+        &self.estimates
+    }
+
     /// How many stations were taken, both ends together.
     pub fn taken(&self) -> usize
         ensures { result ≡ self.now.taken }

@@ -2,7 +2,6 @@
 ghost use Rattle.std.specs.Prelude.{◌≡◌, ◌<◌, ◌≤◌, length, Some, true, is_some};
 ghost use Rattle.std.specs.List.{slice_get};
 ghost use Rattle.networks.specs.Nets.{InRange, starters};
-ghost use Rattle.optimality.specs.Problems.{head};
 ghost use Rattle.optimality.specs.Search.{reach, along, spread};
 ghost use Rattle.optimality.specs.Sheets.{put};
 
@@ -10,18 +9,7 @@ use crate::labels::{fits_row, improves, mark_at, met};
 use amounts::cost::Cost;
 use faults::Side;
 use networks::network::Network;
-use networks::section::Section;
 use optimality::sheet::{Ceiling, Mark, Row};
-
-/// The station to which a side goes along a section.
-pub fn head<A>(side: Side, section: &Section<A>) -> usize
-    ensures { result ≡ head side section.now }
-{
-    match side {
-        Side::Forward => section.to,
-        Side::Backward => section.from,
-    }
-}
 
 /// Writes a side's mark at a station.
 pub fn put<C: Cost>(rows: &mut [Row<C>], side: Side, station: usize, mark: Mark<C::Label>)
@@ -80,7 +68,7 @@ fn along<C: Cost, N: Network<C>>(
         return ceiling;
     }
     let candidate = C::sum(label, C::worth(section.amount));
-    reach::<C>(rows, side, number, head(side, &section), candidate, ceiling)
+    reach::<C>(rows, side, number, section.head(side), candidate, ceiling)
 }
 
 /// Every section of a station with the label, in rising number; answers the ceiling after them.
