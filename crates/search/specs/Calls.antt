@@ -133,7 +133,7 @@ module _ {C L S : Type 0} (p : Problem C L S) where
 
   module _ {N E : Type 0} (s : Running C N E L S) where
     abbrev pub conclusion : Ceiling L → Finished C N E L S
-    conclusion Absent = finished.NoRoute (record { net = s.net; estimates = s.estimates; taken = s.taken })
+    conclusion Absent = finished.NoRoute (record { net = s.net; estimates = s.estimates; taken = s.taken; tag = record {} })
     conclusion (Met a m) = finished.Found (record { net = s.net; estimates = s.estimates; taken = s.taken; cost = a; meeting = m })
 
     abbrev pub finish_by : Option Fault → Result (Finished C N E L S) (Unfinished C N E L S)

@@ -18,6 +18,7 @@ use faults::{Fault, Layer, Refusal, Side};
 use networks::estimates::Estimates;
 use networks::network::Network;
 use optimality::sheet::{Ceiling, Front, Mark, Row};
+use std::marker::PhantomData;
 
 /// A label of at most this size leads to none that a row does not hold, along one section.
 const LIGHT: u64 = (1 << 44) - (1 << 32);
@@ -43,17 +44,18 @@ pub struct Found<C: Cost, N, E> {
 
 /// A search that found that there is no route.
 #[derive(Drop)]
-pub struct NoRoute<N, E> {
+pub struct NoRoute<C: Cost, N, E> {
     net: N,
     estimates: E,
     taken: usize,
+    tag: PhantomData<C>,
 }
 
 /// What an accepted Finish gives.
 #[derive(Drop)]
 pub enum Finished<C: Cost, N, E> {
     Found(Found<C, N, E>),
-    NoRoute(NoRoute<N, E>),
+    NoRoute(NoRoute<C, N, E>),
 }
 
 /// What a refused Open gives back.
@@ -269,6 +271,7 @@ impl<C: Cost, N: Network<C>, E: Estimates<C>> Running<C, N, E> {
                 net,
                 estimates,
                 taken,
+                tag: PhantomData,
             }),
         })
     }
@@ -389,7 +392,7 @@ impl<C: Cost, N, E> Found<C, N, E> {
     }
 }
 
-impl<N, E> NoRoute<N, E> {
+impl<C: Cost, N, E> NoRoute<C, N, E> {
     /// The network that was searched.
     pub fn network(&self) -> &N
         ensures { result.now ≡ self.now.net }

@@ -1,5 +1,5 @@
 //! Writing a page.
-ghost use Rattle.std.specs.Prelude.{◌≡◌, ◌+◌, ◌≤◌, length, take, None, Ok, Err};
+ghost use Rattle.std.specs.Prelude.{◌≡◌, ◌+◌, ◌^◌, ◌<◌, ◌≤◌, length, take, IfOk, None, Ok, Err};
 ghost use Rattle.std.specs.Result.{result_err};
 ghost use Rattle.std.specs.Option.{option_map};
 ghost use Rattle.records.specs.Bytes.{overlay};
@@ -7,6 +7,7 @@ ghost use Rattle.contents.specs.Again.{Back};
 ghost use Rattle.contents.specs.Content.{meant_of};
 ghost use Rattle.contents.specs.Encoding.{answer_encoded};
 ghost use Rattle.contents.specs.Writing.{placed, answer_size, RunFits, Short, content_by, write_fault, write_of};
+ghost use Rattle.writing.specs.Places.{size_with, answer_place};
 
 use crate::bodies::{answer_body, estimate_row, header_body, section_row, step_row};
 use crate::holds::check_answer;
@@ -20,16 +21,41 @@ use records::kinds::{
     AnswerRecord, EndRecord, EstimateRecord, HeaderRecord, SectionRecord, StepRecord,
 };
 
-/// Where an answer at an offset ends with its steps, as far as a machine number goes.
-fn answer_end<L>(at: usize, answer: &Option<WholeAnswer<'_, L>>) -> usize
-    ensures { result ≡ placed (at + answer_size (option_map meant_of answer.now)) }
+/// Where an answer with so many steps at an offset ends, as far as a machine number goes.
+fn answer_end(at: usize, steps: Option<usize>) -> usize
+    ensures { result ≡ placed (at + size_with steps) }
 {
-    match answer {
-        Some(answer) => at
+    match steps {
+        Some(steps) => at
             .saturating_add(AnswerRecord::SIZE)
-            .saturating_add(answer.steps.len().saturating_mul(StepRecord::SIZE)),
+            .saturating_add(steps.saturating_mul(StepRecord::SIZE)),
         None => at,
     }
+}
+
+/// Where an answer with so many steps, or none, stands on a page of so many bytes; else the fault: other stations than
+/// the network's, or too short a page.
+pub fn answer_place<C: Cost, N: Network<C>, E: Estimates<C>>(
+    room: usize,
+    net: &N,
+    estimates: &E,
+    steps: Option<usize>,
+) -> Result<usize, Fault>
+    ensures exact { result ≡ answer_place (N.Network.meaning net.now) (E.Estimates.meaning estimates.now) room steps }
+    ensures small { IfOk result (λ at. at < 2 ^ 32) }
+{
+    let count = estimates.count();
+    if count != net.stations() {
+        return Err(Layer::Page.fault(Refusal::EstimateCount { count }));
+    }
+    let at = HeaderRecord::SIZE
+        + SectionRecord::SIZE * net.sections()
+        + EstimateRecord::SIZE * count;
+    let needed = answer_end(at, steps).saturating_add(EndRecord::SIZE);
+    if room < needed {
+        return Err(Layer::Page.fault(Refusal::PageTooShort { needed }));
+    }
+    Ok(at)
 }
 
 /// Puts an answer with its steps, if there is one, on the page from an offset on, and answers where they end.
@@ -66,18 +92,12 @@ fn check_write<C: Cost, N: Network<C>, E: Estimates<C>>(
 ) -> Result<(), Fault>
     ensures { result_err result ≡ write_fault C.Cost room (content_by (N.Network.meaning net.now) (E.Estimates.meaning estimates.now) answer.now) }
 {
-    let count = estimates.count();
-    if count != net.stations() {
-        return Err(Layer::Page.fault(Refusal::EstimateCount { count }));
-    }
-    let after = HeaderRecord::SIZE
-        + SectionRecord::SIZE * net.sections()
-        + EstimateRecord::SIZE * count;
-    let needed = answer_end(after, answer).saturating_add(EndRecord::SIZE);
-    if room < needed {
-        return Err(Layer::Page.fault(Refusal::PageTooShort { needed }));
-    }
-    check_answer::<C, N>(net, after, answer)
+    let steps = match answer {
+        Some(answer) => Some(answer.steps.len()),
+        None => None,
+    };
+    let at = answer_place::<C, N, E>(room, net, estimates, steps)?;
+    check_answer::<C, N>(net, at, answer)
 }
 
 /// Puts everything on a page that can hold it, and answers how many bytes.

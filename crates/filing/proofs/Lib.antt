@@ -1,0 +1,11 @@
+pub mod Followed
+pub mod Filling
+pub mod Halving
+pub mod Lists
+pub mod Joined
+pub mod Listed
+pub mod Reached
+pub mod Routed
+pub mod Held
+pub mod Filed
+pub mod Stands

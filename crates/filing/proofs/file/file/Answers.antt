@@ -1,0 +1,22 @@
+use Rattle.std.proofs.Common.{subst}
+use Rattle.networks.specs.Given.{GivenInRange}
+use Rattle.networks.specs.Nets.{InRange}
+use Rattle.filing.proofs.Filed.{filed_all}
+use Rattle.filing.proofs.Stands.{file_stands}
+use Rattle.filing.proofs.file.file.Goals as goal
+
+pub returns-clause-filed : goal.returns-clause-filed
+returns-clause-filed g c =
+    filed_all g.C.Cost g.N.Network g.E.Estimates g.met.C.Cost.lawful (record { sections = g.met.C.Cost.sections; labels = g.met.C.Cost.labels; kinds = g.met.C.Cost.kinds }) g.met.C.Cost.totals
+    c.args.found.now c.args.run c.ranges.run.fits c.args.sheet.now c.args.steps.now c.args.turning.now c.args.page.now
+    (subst (λ x. InRange g.C.Cost.parts (g.N.Network.meaning x)) c.network.ensures c.promised.ensures.range)
+    (subst (λ x. GivenInRange g.C.Cost.shown (g.E.Estimates.meaning x)) c.estimates.ensures c.promised.ensures.given)
+    _ c.file_route.ensures
+
+pub returns-clause-stands : goal.returns-clause-stands
+returns-clause-stands g c =
+    file_stands g.C.Cost g.N.Network g.E.Estimates g.met.C.Cost.lawful (record { sections = g.met.C.Cost.sections; labels = g.met.C.Cost.labels; kinds = g.met.C.Cost.kinds }) g.met.C.Cost.totals
+    c.args.run c.ranges.run.fits c.args.page.now c.args.found.now c.args.sheet.now c.args.steps.now c.args.turning.now
+    (subst (λ x. InRange g.C.Cost.parts (g.N.Network.meaning x)) c.network.ensures c.promised.ensures.range)
+    (subst (λ x. GivenInRange g.C.Cost.shown (g.E.Estimates.meaning x)) c.estimates.ensures c.promised.ensures.given)
+    _ c.file_route.ensures
