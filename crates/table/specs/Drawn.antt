@@ -1,0 +1,93 @@
+-- The network of the worked cases, its estimates, and what is answered of it, in samples.
+use Rattle.std.specs.Prelude.{ℕ, false, List, [], ◌∷◌, replicate, ℤ, pos, Some}
+use Rattle.amounts.specs.declared.cost.SectionForm.{SectionForm}
+use Rattle.amounts.specs.Forms.{section_form}
+use Rattle.networks.specs.declared.section.Section.{Section}
+use Rattle.networks.specs.declared.estimates.Pair.{Pair}
+use Rattle.networks.specs.Nets.{Net}
+use Rattle.contents.specs.declared.answer.Step.{Step}
+use Rattle.optimality.specs.declared.sheet.Ceiling.{Ceiling}
+use Rattle.optimality.specs.declared.sheet.Ceiling.TheVariants.{Met}
+use Rattle.search.specs.declared.running.Bounds.{Bounds}
+
+-- The network ------------------------------------------------------------------------------------
+
+-- an open section
+abbrev pub pipe : {S : Type 0} → ℕ → ℕ → S → Section S
+pipe u v a = record { from = u; to = v; amount = a; shut = false }
+
+-- five stations, from launcher 0 to a trap
+abbrev pub five_stations : {S : Type 0} → ℕ → List (Section S) → Net S
+five_stations trap sections = record { stations = 5; launcher = 0; trap = trap; sections = sections }
+
+abbrev pub pipes : List (Section ℕ)
+pipes = pipe 0 1 4 ∷ pipe 0 2 2 ∷ pipe 2 1 1 ∷ pipe 1 4 5 ∷ pipe 2 3 6 ∷ pipe 3 4 1 ∷ []
+
+abbrev pub drawn : Net ℕ
+drawn = five_stations 4 pipes
+
+-- the launcher as trap
+abbrev pub drawn_back : Net ℕ
+drawn_back = five_stations 0 pipes
+
+-- in moves and samples, with one move along section 1
+abbrev pub drawn_moves : Net SectionForm
+drawn_moves =
+    five_stations 4
+    (pipe 0 1 (section_form 0 4) ∷ pipe 0 2 (section_form 1 2) ∷ pipe 2 1 (section_form 0 1) ∷ pipe 1 4 (section_form 0 5)
+    ∷ pipe 2 3 (section_form 0 6) ∷ pipe 3 4 (section_form 0 1) ∷ [])
+
+-- Its estimates ----------------------------------------------------------------------------------
+
+-- a station's estimates, forward and backward
+abbrev pub pair : ℕ → ℕ → Pair ℤ
+pair f b = record { forward = pos f; backward = pos b }
+
+-- with another forward estimate at station 0
+abbrev pub guessed_from : ℕ → List (Pair ℤ)
+guessed_from f = pair f 0 ∷ pair 4 2 ∷ pair 5 2 ∷ pair 1 6 ∷ pair 0 7 ∷ []
+
+abbrev pub guessed : List (Pair ℤ)
+guessed = guessed_from 6
+
+-- Answers ----------------------------------------------------------------------------------------
+
+abbrev pub bounds : ℕ → Ceiling ℤ → Bounds ℤ
+bounds floor ceiling = record { floor = Some (pos floor); ceiling = ceiling }
+
+-- a ceiling, and the station where it is met
+abbrev pub met : ℕ → ℕ → Ceiling ℤ
+met a u = Met (pos a) u
+
+-- a step: section, from, to, and the cost so far
+abbrev pub step : ℕ → ℕ → ℕ → ℕ → Step ℤ
+step k u v a = record { section = k; from = u; to = v; so_far = pos a }
+
+-- a list with so many places
+abbrev pub places : ℕ → List (Step ℤ)
+places n = replicate n (step 0 0 0 0)
+
+-- the cheapest route, from the launcher on
+abbrev pub cheapest : List (Step ℤ)
+cheapest = step 1 0 2 2 ∷ step 2 2 1 3 ∷ step 3 1 4 8 ∷ []
+
+-- The page of network, estimates and the answer of run 7, a record a line.
+abbrev pub filed_page : List ℕ
+filed_page =
+    0x48 ∷ 0x01 ∷ 0x00 ∷ 0x05 ∷ 0x00 ∷ 0x06 ∷ 0x00 ∷ 0x00 ∷ 0x00 ∷ 0x04 ∷
+    0x53 ∷ 0x00 ∷ 0x00 ∷ 0x00 ∷ 0x00 ∷ 0x01 ∷ 0x00 ∷ 0x00 ∷ 0x00 ∷ 0x00 ∷ 0x00 ∷ 0x04 ∷
+    0x53 ∷ 0x00 ∷ 0x00 ∷ 0x00 ∷ 0x00 ∷ 0x02 ∷ 0x00 ∷ 0x00 ∷ 0x00 ∷ 0x00 ∷ 0x00 ∷ 0x02 ∷
+    0x53 ∷ 0x00 ∷ 0x00 ∷ 0x02 ∷ 0x00 ∷ 0x01 ∷ 0x00 ∷ 0x00 ∷ 0x00 ∷ 0x00 ∷ 0x00 ∷ 0x01 ∷
+    0x53 ∷ 0x00 ∷ 0x00 ∷ 0x01 ∷ 0x00 ∷ 0x04 ∷ 0x00 ∷ 0x00 ∷ 0x00 ∷ 0x00 ∷ 0x00 ∷ 0x05 ∷
+    0x53 ∷ 0x00 ∷ 0x00 ∷ 0x02 ∷ 0x00 ∷ 0x03 ∷ 0x00 ∷ 0x00 ∷ 0x00 ∷ 0x00 ∷ 0x00 ∷ 0x06 ∷
+    0x53 ∷ 0x00 ∷ 0x00 ∷ 0x03 ∷ 0x00 ∷ 0x04 ∷ 0x00 ∷ 0x00 ∷ 0x00 ∷ 0x00 ∷ 0x00 ∷ 0x01 ∷
+    0x45 ∷ 0x00 ∷ 0x00 ∷ 0x00 ∷ 0x00 ∷ 0x00 ∷ 0x00 ∷ 0x00 ∷ 0x00 ∷ 0x00 ∷ 0x06 ∷ 0x00 ∷ 0x00 ∷ 0x00 ∷ 0x00 ∷ 0x00 ∷ 0x00 ∷ 0x00 ∷ 0x00 ∷ 0x00 ∷ 0x00 ∷
+    0x45 ∷ 0x00 ∷ 0x00 ∷ 0x00 ∷ 0x00 ∷ 0x00 ∷ 0x00 ∷ 0x00 ∷ 0x00 ∷ 0x00 ∷ 0x04 ∷ 0x00 ∷ 0x00 ∷ 0x00 ∷ 0x00 ∷ 0x00 ∷ 0x00 ∷ 0x00 ∷ 0x00 ∷ 0x00 ∷ 0x02 ∷
+    0x45 ∷ 0x00 ∷ 0x00 ∷ 0x00 ∷ 0x00 ∷ 0x00 ∷ 0x00 ∷ 0x00 ∷ 0x00 ∷ 0x00 ∷ 0x05 ∷ 0x00 ∷ 0x00 ∷ 0x00 ∷ 0x00 ∷ 0x00 ∷ 0x00 ∷ 0x00 ∷ 0x00 ∷ 0x00 ∷ 0x02 ∷
+    0x45 ∷ 0x00 ∷ 0x00 ∷ 0x00 ∷ 0x00 ∷ 0x00 ∷ 0x00 ∷ 0x00 ∷ 0x00 ∷ 0x00 ∷ 0x01 ∷ 0x00 ∷ 0x00 ∷ 0x00 ∷ 0x00 ∷ 0x00 ∷ 0x00 ∷ 0x00 ∷ 0x00 ∷ 0x00 ∷ 0x06 ∷
+    0x45 ∷ 0x00 ∷ 0x00 ∷ 0x00 ∷ 0x00 ∷ 0x00 ∷ 0x00 ∷ 0x00 ∷ 0x00 ∷ 0x00 ∷ 0x00 ∷ 0x00 ∷ 0x00 ∷ 0x00 ∷ 0x00 ∷ 0x00 ∷ 0x00 ∷ 0x00 ∷ 0x00 ∷ 0x00 ∷ 0x07 ∷
+    0x41 ∷ 0x00 ∷ 0x00 ∷ 0x00 ∷ 0x07 ∷ 0x00 ∷ 0x00 ∷ 0x00 ∷ 0x00 ∷ 0x00 ∷ 0x00 ∷ 0x00 ∷ 0x00 ∷ 0x00 ∷ 0x00 ∷ 0x08 ∷ 0x00 ∷ 0x03 ∷ 0x00 ∷ 0x04 ∷
+    0x50 ∷ 0x00 ∷ 0x01 ∷ 0x00 ∷ 0x00 ∷ 0x00 ∷ 0x00 ∷ 0x00 ∷ 0x00 ∷ 0x00 ∷ 0x00 ∷ 0x00 ∷ 0x02 ∷
+    0x50 ∷ 0x00 ∷ 0x02 ∷ 0x00 ∷ 0x00 ∷ 0x00 ∷ 0x00 ∷ 0x00 ∷ 0x00 ∷ 0x00 ∷ 0x00 ∷ 0x00 ∷ 0x03 ∷
+    0x50 ∷ 0x00 ∷ 0x03 ∷ 0x00 ∷ 0x00 ∷ 0x00 ∷ 0x00 ∷ 0x00 ∷ 0x00 ∷ 0x00 ∷ 0x00 ∷ 0x00 ∷ 0x08 ∷
+    0x5A ∷ []

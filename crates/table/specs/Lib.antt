@@ -1,0 +1,3 @@
+pub mod After
+pub mod Drawn
+pub mod Table
