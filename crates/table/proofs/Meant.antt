@@ -18,10 +18,9 @@ use Rattle.search.specs.declared.running.Found.{Found}
 use Rattle.search.specs.declared.running.Finished.{Finished}
 use Rattle.search.specs.Calls.{running, search_fault, unfit, begun as begun_over, opening_by, step, bounds, finish, posed}
 use Rattle.filing.specs.Listing.{Routed, route_of}
-use Rattle.filing.specs.Filing.{Filing, filed_by, written, filing_by, file_of}
+use Rattle.filing.specs.Filing.{filed_by, written, filing_by, file_of}
 use Rattle.search.specs.declared.running.Finished.TheVariants as finished
-use Rattle.contents.specs.Writing.{Written}
-use Rattle.table.specs.After.{Underway, opened_by, stepped_by, finished_by, sheet_of, of_found, stepped_on, bounds_in, finish_in, begun, after, bounds_after, finish_after, route_after, file_after}
+use Rattle.table.specs.After.{Underway, opened_by, stepped_by, finished_by, sheet_of, of_found, stepped_on, bounds_in, finish_in, after, bounds_after, finish_after, route_after, file_after}
 
 -- Over a problem ---------------------------------------------------------------------------------
 

@@ -17,7 +17,7 @@ use Rattle.search.specs.declared.running.Finished.{Finished}
 use Rattle.search.specs.declared.running.Finished.TheVariants as finished
 use Rattle.search.specs.declared.running.Unfinished.{Unfinished}
 use Rattle.search.specs.declared.running.Unopened.{Unopened}
-use Rattle.search.specs.Calls.{Opening, Left, open_of, step_of, bounds_of, finish_of}
+use Rattle.search.specs.Calls.{open_of, step_of, bounds_of, finish_of}
 use Rattle.filing.specs.Listing.{Routed, route_of}
 use Rattle.filing.specs.Filing.{Filing, file_of}
 

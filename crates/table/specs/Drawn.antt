@@ -26,16 +26,16 @@ pipes = pipe 0 1 4 ∷ pipe 0 2 2 ∷ pipe 2 1 1 ∷ pipe 1 4 5 ∷ pipe 2 3 6 �
 abbrev pub drawn : Net ℕ
 drawn = five_stations 4 pipes
 
--- the launcher as trap
-abbrev pub drawn_back : Net ℕ
-drawn_back = five_stations 0 pipes
+-- the launcher is the trap
+abbrev pub one_place : Net ℕ
+one_place = five_stations 0 pipes
 
 -- in moves and samples, with one move along section 1
-abbrev pub drawn_moves : Net SectionForm
-drawn_moves =
+abbrev pub with_a_move : Net SectionForm
+with_a_move =
     five_stations 4
-    (pipe 0 1 (section_form 0 4) ∷ pipe 0 2 (section_form 1 2) ∷ pipe 2 1 (section_form 0 1) ∷ pipe 1 4 (section_form 0 5)
-    ∷ pipe 2 3 (section_form 0 6) ∷ pipe 3 4 (section_form 0 1) ∷ [])
+    (pipe 0 1 (section_form 0 4) ∷ pipe 0 2 (section_form 1 2) ∷ pipe 2 1 (section_form 0 1) ∷ pipe 1 4 (section_form 0 5) ∷
+    pipe 2 3 (section_form 0 6) ∷ pipe 3 4 (section_form 0 1) ∷ [])
 
 -- Its estimates ----------------------------------------------------------------------------------
 
@@ -67,9 +67,15 @@ step k u v a = record { section = k; from = u; to = v; so_far = pos a }
 abbrev pub places : ℕ → List (Step ℤ)
 places n = replicate n (step 0 0 0 0)
 
--- the cheapest route, from the launcher on
-abbrev pub cheapest : List (Step ℤ)
-cheapest = step 1 0 2 2 ∷ step 2 2 1 3 ∷ step 3 1 4 8 ∷ []
+-- the steps of the cheapest route
+abbrev pub first : Step ℤ
+first = step 1 0 2 2
+
+abbrev pub second : Step ℤ
+second = step 2 2 1 3
+
+abbrev pub third : Step ℤ
+third = step 3 1 4 8
 
 -- The page of network, estimates and the answer of run 7, a record a line.
 abbrev pub filed_page : List ℕ

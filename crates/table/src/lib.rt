@@ -1,5 +1,6 @@
 //! Worked cases: what the calls answer over one network of five stations, as one table.
 #![tactic(auto)]
+
 ghost use Rattle.table.specs.Table.{WorkedCases};
 
 use amounts::cost::Cost;
@@ -15,5 +16,4 @@ where
     M: Network<Moves>,
     F: Estimates<Moves>,
     ensures { WorkedCases ⟦<Samples as Cost>⟧ N.Network E.Estimates ⟦<Moves as Cost>⟧ M.Network F.Estimates }
-{
-}
+{}
