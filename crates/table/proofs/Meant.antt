@@ -127,7 +127,7 @@ module _ {C N E L S : Type 0} (c : cost.Ghosts C L S) (n : network.Ghosts N C L 
   finish_held (Ok st) = refl
   finish_held (Err f) = refl
 
-  module _ (m : Net S) (g : List (Pair L)) (net_means : n.meaning net ≡ m) (given_means : e.meaning given ≡ g) where
+  module _ {m : Net S} {g : List (Pair L)} (net_means : n.meaning net ≡ m) (given_means : e.meaning given ≡ g) where
     -- the problem that they pose
     abbrev pub problem : Problem C L S
     problem = record { kind = c; net = m; estimates = g }
