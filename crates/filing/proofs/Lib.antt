@@ -9,3 +9,4 @@ pub mod Routed
 pub mod Held
 pub mod Filed
 pub mod Stands
+pub mod Chained

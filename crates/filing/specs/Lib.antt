@@ -5,3 +5,4 @@ pub mod Costs
 pub mod Filing
 pub mod Holding
 pub mod Claims
+pub mod Chains
