@@ -8,7 +8,7 @@ use Rattle.faults.specs.declared.Side.{Side}
 use Rattle.faults.specs.declared.Side.TheVariants.{Forward, Backward}
 use Rattle.networks.specs.declared.section.Section.{Section}
 use Rattle.networks.specs.Nets.{tail, head}
-use Rattle.networks.specs.Routes.{Route}
+use Rattle.networks.specs.Routes.{Joins, Route}
 use Rattle.optimality.specs.declared.sheet.Row.{Row}
 use Rattle.optimality.specs.Problems.{Problem, start}
 use Rattle.optimality.proofs.Invariant.{Walk}
@@ -64,6 +64,8 @@ module _ {C L S : Type 0} (p : Problem C L S) (rows : List (Row C L S)) (meeting
   pub record Joined (l : Line) : Type 0 where
     pub route : Route p.net (through l)
     pub few : length (through l) < p.net.stations
+    -- whose first half leads to the meeting station
+    pub half : Joins p.net p.net.launcher (reverse l.behind) meeting
 
   joins : (ks js : List ℕ) → Back p rows Forward p.net.stations meeting ks → Back p rows Backward (p.net.stations - length ks) meeting js → Joined (record { behind = ks; ahead = js })
   joins ks js b a =
@@ -71,6 +73,7 @@ module _ {C L S : Type 0} (p : Problem C L S) (rows : List (Row C L S)) (meeting
       record {
         route = walk_joins p p.net.launcher p.net.trap (reverse ks ++ js) (walk_append p Forward p.net.launcher meeting p.net.trap (reverse ks) js b.walk on);
         few = omega (arith, b.short, a.short, length-append (reverse ks) js, length-reverse ks);
+        half = walk_joins p p.net.launcher meeting (reverse ks) b.walk;
       }
 
   pub line_joined : (l : Line) → line p.net rows meeting ≡ Some l → Joined l

@@ -1,6 +1,6 @@
 -- What the contract of Route says beyond its answer.
 use Rattle.std.proofs.Common.{◌≡◌, ℕ, ◌≤◌, Bool, true, false, true≢false, cond, min, List, [], ◌++◌, length, take, drop, reverse, Some, None, Option, Ok, Err, Result, nat_lt, is_ok, refl, sym, ap, ◌∙◌, subst, length-append, length-take, arith}
-use Rattle.std.proofs.lemmas.List.{length-reverse}
+use Rattle.std.proofs.lemmas.List.{length-reverse, take-map}
 use Rattle.std.proofs.Math.Seq.{take-append_seam}
 use Rattle.std.proofs.lemmas.Bool.{le-ltb}
 use Rattle.amounts.specs.declared.cost.Cost as cost
@@ -10,10 +10,11 @@ use Rattle.networks.specs.declared.network.Network as network
 use Rattle.networks.specs.declared.estimates.Estimates as estimates
 use Rattle.networks.specs.Given.{GivenInRange}
 use Rattle.networks.specs.Nets.{Net, InRange}
-use Rattle.networks.specs.Routes.{cost_of}
+use Rattle.networks.specs.Routes.{Joins, cost_of}
 use Rattle.faults.specs.declared.Fault.{Fault}
 use Rattle.faults.specs.declared.Refusal.TheVariants.{ForeignSheet, ListTooShort}
 use Rattle.contents.specs.declared.answer.Step.{Step}
+use Rattle.contents.specs.Retracing.{sections_of}
 use Rattle.optimality.specs.declared.sheet.Row.{Row}
 use Rattle.optimality.specs.declared.sheet.Ceiling.{Ceiling}
 use Rattle.optimality.specs.declared.sheet.Ceiling.TheVariants.{Absent, Met}
@@ -54,7 +55,7 @@ module _ {C L S : Type 0} (c : cost.Ghosts C L S) (laws : Laws c.ops) (fit : Sec
       along_listed c laws fit totals net range (through l) j.route j.few
 
   module _ (steps turning : List (Step L)) (meeting : ℕ) (sheet : List (Row C L S)) where
-    lined_listed : (r : Result Line Fault) → lined net meeting sheet (min (length steps) (length turning)) ≡ r → ListedBy c net ((routed_by c net steps turning r).answer) ((routed_by c net steps turning r).steps) ((routed_by c net steps turning r).turning)
+    lined_listed : (r : Result Line Fault) → lined net meeting sheet (min (length steps) (length turning)) ≡ r → ListedBy c net meeting ((routed_by c net steps turning r).answer) ((routed_by c net steps turning r).steps) ((routed_by c net steps turning r).turning)
     lined_listed (Err f) is = tt
     lined_listed (Ok l) is =
         let route = steps_along c net c.ops.zero (through l) in
@@ -62,14 +63,18 @@ module _ {C L S : Type 0} (c : cost.Ghosts C L S) (laws : Laws c.ops) (fit : Sec
         let there = lined_ok net meeting sheet (min (length steps) (length turning)) (record { behind = 0; ahead = 0 }) l is in
         let within : behind ≤ length route = omega (arith, length_along c net c.ops.zero (through l), length-append (reverse l.behind) l.ahead, length-reverse l.behind) in
         let count : behind ≡ length (reverse (take behind route)) = omega (arith, length-reverse (take behind route), length-take behind route) in
+        let half = (line_joined (record { kind = c; net = net; estimates = [] }) (take net.stations sheet) meeting l there.0).half in
         let whole = first_places route (drop (length route) steps) (length route) refl in (
           subst (Listed c net) (sym whole) (line_listed (take net.stations sheet) meeting l there.0),
-          behind,
-          first_places (reverse (take behind route)) (drop behind turning) behind count ∙ ap (λ ss. reverse (take behind ss)) (sym whole),
+          record {
+            behind = behind;
+            to_meeting = subst (λ ks. Joins net net.launcher ks meeting) (sym (ap (λ ss. sections_of (take behind ss)) whole ∙ sym (take-map (λ s. s.section) behind route) ∙ ap (take behind) (along_sections c net c.ops.zero (through l)) ∙ first_places (reverse l.behind) l.ahead behind (sym (length-reverse l.behind)))) half;
+            turned = first_places (reverse (take behind route)) (drop behind turning) behind count ∙ ap (λ ss. reverse (take behind ss)) (sym whole);
+          },
         )
 
-    pub listed_by : (r : Routed L) → r ≡ route_of c net steps turning meeting sheet → ListedBy c net r.answer r.steps r.turning
-    listed_by r is = subst (λ x. ListedBy c net x.answer x.steps x.turning) (sym is) (lined_listed (lined net meeting sheet (min (length steps) (length turning))) refl)
+    pub listed_by : (r : Routed L) → r ≡ route_of c net steps turning meeting sheet → ListedBy c net meeting r.answer r.steps r.turning
+    listed_by r is = subst (λ x. ListedBy c net meeting x.answer x.steps x.turning) (sym is) (lined_listed (lined net meeting sheet (min (length steps) (length turning))) refl)
 
 -- Where the search has its sheet to itself -----------------------------------------------------------
 

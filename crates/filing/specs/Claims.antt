@@ -13,7 +13,7 @@ use Rattle.amounts.specs.declared.cost.Cost as cost
 use Rattle.networks.specs.declared.network.Network as network
 use Rattle.networks.specs.declared.estimates.Estimates as estimates
 use Rattle.networks.specs.Nets.{Net}
-use Rattle.networks.specs.Routes.{Route, cost_of}
+use Rattle.networks.specs.Routes.{Joins, Route, cost_of}
 use Rattle.faults.specs.declared.Fault.{Fault}
 use Rattle.faults.specs.declared.Refusal.TheVariants.{ListTooShort, PageTooShort}
 use Rattle.records.specs.Due.{page_fault}
@@ -46,14 +46,16 @@ module _ {C L S : Type 0} (c : cost.Ghosts C L S) (net : Net S) where
     pub so_far : (k : ℕ) (s : Step L) → slice_get steps k ≡ Some s → s.so_far ≡ cost_of c.ops c.worth net (take (suc k) (sections_of steps))
     pub total : last_cost c.ops.zero steps ≡ cost_of c.ops c.worth net (sections_of steps)
 
-  -- the turning list starts with the first so many of them, the last one first
-  abbrev pub Turned : ℕ → List (Step L) → List (Step L) → Type 0
-  Turned behind steps turning = take behind turning ≡ reverse (take behind steps)
+  -- The first so many of them lead to the meeting station, and the turning list starts with these, the last one first.
+  pub record Turned (meeting : ℕ) (steps turning : List (Step L)) : Type 0 where
+    pub behind : ℕ
+    pub to_meeting : Joins net net.launcher (sections_of (take behind steps)) meeting
+    pub turned : take behind turning ≡ reverse (take behind steps)
 
   -- accepted, the first places hold such steps, and the turning list starts with those behind the meeting station
-  abbrev pub ListedBy : Result ℕ Fault → List (Step L) → List (Step L) → Type 0
-  ListedBy (Err f) steps turning = Unit {0}
-  ListedBy (Ok count) steps turning = Listed (take count steps) × (behind : ℕ) × Turned behind (take count steps) turning
+  abbrev pub ListedBy : ℕ → Result ℕ Fault → List (Step L) → List (Step L) → Type 0
+  ListedBy meeting (Err f) steps turning = Unit {0}
+  ListedBy meeting (Ok count) steps turning = Listed (take count steps) × Turned meeting (take count steps) turning
 
 -- Where the search has its sheet to itself ---------------------------------------------------------
 

@@ -99,7 +99,7 @@ pub fn route<C: Cost, N: Network<C>, E: Estimates<C>>(
     // The answer and both lists, on every input.
     ensures exact { record { answer = result; steps = steps.new; turning = turning.new } ≡ route_of C.Cost (N.Network.meaning found.now.net) steps.old turning.old found.now.meeting sheet.now }
     // On every sheet: what is listed is a route, and every cost so far is right.
-    ensures listed { ListedBy C.Cost (N.Network.meaning found.now.net) result steps.new turning.new }
+    ensures listed { ListedBy C.Cost (N.Network.meaning found.now.net) found.now.meeting result steps.new turning.new }
     // Where the search had its sheet to itself, only a short list is turned down, and no route costs less.
     ensures stands { (calls : List Call) → FoundBy C.Cost N.Network E.Estimates calls found.now sheet.now → RouteStands C.Cost N.Network E.Estimates found.now result steps.new }
 {
