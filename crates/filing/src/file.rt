@@ -29,7 +29,7 @@ fn last_cost<C: Cost>(steps: &[Step<C::Label>]) -> C::Label
 }
 
 /// Whether a page of so many bytes holds an answer with so many steps, each of which it can hold; else the fault.
-fn check_page<C: Cost, N: Network<C>, E: Estimates<C>>(
+fn check_room<C: Cost, N: Network<C>, E: Estimates<C>>(
     room: usize,
     found: &Found<C, N, E>,
     steps: usize,
@@ -60,7 +60,7 @@ fn file_route<C: Cost, N: Network<C>, E: Estimates<C>>(
     let meeting = found.meeting();
     let halves = plan::<C, N>(net, meeting, sheet, steps.len().min(turning.len()))?;
     let count = halves.behind + halves.ahead;
-    check_page::<C, N, E>(page.len(), found, count)?;
+    check_room::<C, N, E>(page.len(), found, count)?;
     list::<C, N>(net, meeting, sheet, halves, steps, turning);
     let (steps, _) = steps.split_at_mut(count);
     let answer = WholeAnswer {

@@ -49,6 +49,7 @@ pub(crate) fn list<C: Cost, N: Network<C>>(
     requires { Ok halves ≡ halved (lined (N.Network.meaning net.now) meeting sheet.now (min (length steps.old) (length turning.old))) }
     ensures { record { answer = Ok (halves.behind + halves.ahead); steps = steps.new; turning = turning.new } ≡ route_of C.Cost (N.Network.meaning net.now) steps.old turning.old meeting sheet.now }
 {
+    // Never absent: the plan has found a row for each station.
     let Some(own) = sheet.get(..net.stations()) else {
         return;
     };
