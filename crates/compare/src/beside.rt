@@ -1,13 +1,17 @@
 //! A search, beside the least cost of a plan.
+use crate::along::{cost_along, plain};
 use crate::draws::Draws;
 use crate::paged::label_form;
 use crate::plan::{Amount, Plan};
-use amounts::cost::{Cost, LabelForm};
+use amounts::cost::Cost;
+use contents::answer::Step;
 use faults::{Fault, Side};
+use filing::chain::{Route, chain};
+use filing::route::route;
 use networks::estimates::Estimates;
 use networks::network::Network;
 use optimality::sheet::{Ceiling, Row};
-use search::running::{Bounds, Finished, Running};
+use search::running::{Bounds, Finished, Found, Running};
 use std::alloc::{AllocError, Global};
 
 /// The orders in which the two ends of a search are pushed forward.
@@ -60,20 +64,12 @@ impl Seen {
     };
 }
 
-/// A search to be tried: the least cost of a route in its network, and the order of its steps.
+/// A search to be tried: the plan of its network, the least cost there, and the order of its steps.
 #[derive(Clone, Copy)]
-struct Trial {
+struct Trial<'a> {
+    plan: &'a Plan,
     least: Option<Amount>,
     order: Order,
-}
-
-/// What a label shows, in plain numbers; absent where it stands on no page.
-fn plain<C: Cost>(label: C::Label) -> Option<Amount> {
-    let LabelForm { moves, samples } = C::shown(label)?;
-    Some(Amount {
-        moves: u64::from(moves),
-        samples,
-    })
 }
 
 /// Whether twice the least cost is at least the floor.
@@ -104,7 +100,7 @@ fn bounds_hold<C: Cost>(bounds: Bounds<C::Label>, least: Option<Amount>) -> bool
 fn pushed<C: Cost, N: Network<C>, E: Estimates<C>>(
     search: &mut Running<C, N, E>,
     sheet: &mut [Row<C>],
-    trial: Trial,
+    trial: Trial<'_>,
     draws: &mut Draws,
 ) -> Result<bool, Fault> {
     for steps in 0..sheet.len() {
@@ -122,25 +118,72 @@ fn pushed<C: Cost, N: Network<C>, E: Estimates<C>>(
     Ok(true)
 }
 
+/// What a search is lent: its sheet, and two lists for the route.
+#[derive(Drop)]
+struct Lists<C: Cost> {
+    sheet: Vec<Row<C>>,
+    steps: Vec<Step<C::Label>>,
+    turning: Vec<Step<C::Label>>,
+}
+
+impl<C: Cost> Lists<C> {
+    /// A row and a step for each of so many stations.
+    fn blank(heap: Global, stations: usize) -> Result<Lists<C>, AllocError> {
+        let step = Step {
+            section: 0,
+            from: 0,
+            to: 0,
+            so_far: C::ZERO,
+        };
+        let mut lists = Lists {
+            sheet: Vec::new(heap),
+            steps: Vec::new(heap),
+            turning: Vec::new(heap),
+        };
+        for _ in 0..stations {
+            lists.sheet.push(Row::blank())?;
+            lists.steps.push(step)?;
+            lists.turning.push(step)?;
+        }
+        Ok(lists)
+    }
+}
+
+/// Whether the cost that was found is the least one, and the listed route costs that much.
+fn route_holds<C: Cost, N: Network<C>, E: Estimates<C>>(
+    found: &Found<C, N, E>,
+    lists: &mut Lists<C>,
+    trial: Trial<'_>,
+) -> Result<bool, Fault> {
+    let count = route(found, &lists.sheet, &mut lists.steps, &mut lists.turning)?;
+    let Some(listed) = lists.steps.get(..count) else {
+        return Ok(false);
+    };
+    let mut route = Route::empty();
+    chain(listed, &mut route)?;
+    Ok(
+        trial.least.is_some()
+            && plain::<C>(found.cost()) == trial.least
+            && cost_along::<C>(trial.plan, route.steps()) == trial.least,
+    )
+}
+
 /// Whether a search finds a route of the least cost, or none where there is none.
 fn agrees<C: Cost, N: Network<C> + Drop, E: Estimates<C> + Drop>(
     net: N,
     estimates: E,
-    sheet: &mut [Row<C>],
-    trial: Trial,
+    lists: &mut Lists<C>,
+    trial: Trial<'_>,
     draws: &mut Draws,
 ) -> Result<bool, Fault> {
-    let mut search = Running::open(net, estimates, sheet)?;
-    if !pushed(&mut search, sheet, trial, draws)? {
+    let mut search = Running::open(net, estimates, &mut lists.sheet)?;
+    if !pushed(&mut search, &mut lists.sheet, trial, draws)? {
         return Ok(false);
     }
-    let finished = search.finish(sheet)?;
-    Ok(match finished {
-        Finished::Found(found) => {
-            trial.least.is_some() && plain::<C>(found.cost()) == trial.least
-        }
-        Finished::NoRoute(_) => trial.least.is_none(),
-    })
+    match search.finish(&lists.sheet)? {
+        Finished::Found(found) => route_holds(&found, lists, trial),
+        Finished::NoRoute(_) => Ok(trial.least.is_none()),
+    }
 }
 
 /// Searches a network in an order that is drawn, and compares what is found with the least cost of its plan.
@@ -152,15 +195,13 @@ pub fn compared<C: Cost, N: Network<C> + Drop, E: Estimates<C> + Drop>(
     draws: &mut Draws,
 ) -> Result<Seen, AllocError> {
     let trial = Trial {
+        plan,
         least: plan.least(heap)?.get(plan.trap).copied().flatten(),
         order: Order::drawn(draws),
     };
-    let mut sheet = Vec::new(heap);
-    for _ in 0..plan.stations {
-        sheet.push(Row::blank())?;
-    }
+    let mut lists = Lists::blank(heap, plan.stations)?;
     Ok(Seen {
-        agrees: agrees(net, estimates, &mut sheet, trial, draws) == Ok(true),
+        agrees: agrees(net, estimates, &mut lists, trial, draws) == Ok(true),
         has_route: trial.least.is_some(),
     })
 }

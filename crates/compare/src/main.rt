@@ -1,6 +1,7 @@
 //! Searches some hundreds of networks, beside an unrelated method, and prints how many agree.
 #![tactic(auto)]
 
+mod along;
 mod beside;
 mod drawn;
 mod draws;
