@@ -1,8 +1,10 @@
--- What is claimed of a search in turn, whatever the network, the estimates and the kind of cost.
+-- What is claimed of a search in turn, and of what is printed of it, whatever the network, the estimates and the kind of
+-- cost.
 --
 -- Where the sheet has a row for each station and the estimates count the stations and are consistent, it is turned down
 -- neither by a step nor by Finish: it answers the cost of a route that no route undercuts, or none where there is none.
-use Rattle.std.specs.Prelude.{◌≡◌, ℕ, ◌≤◌, List, length, Ok, Err, Result}
+-- What is printed then is such a route with every cost so far, or that there is none, and no refusal.
+use Rattle.std.specs.Prelude.{◌≡◌, ℕ, ◌≤◌, List, length, is_ok, true, Ok, Err, Result, ◌⊎◌}
 use Rattle.amounts.specs.declared.cost.Cost as cost
 use Rattle.networks.specs.declared.network.Network as network
 use Rattle.networks.specs.declared.estimates.Estimates as estimates
@@ -13,7 +15,12 @@ use Rattle.search.specs.declared.running.Finished.{Finished}
 use Rattle.search.specs.declared.running.Finished.TheVariants as finished
 use Rattle.search.specs.Calls.{posed}
 use Rattle.search.specs.Claims.{Call, Reachable, Least, NoRoute}
-use Rattle.filing.specs.Claims.{FoundBy, NoneBy}
+use Rattle.filing.specs.Listing.{last_cost}
+use Rattle.filing.specs.Claims.{Listed, FoundBy, NoneBy}
+use Rattle.contents.specs.declared.answer.Step.{Step}
+use Rattle.contents.specs.Checks.{check_page}
+use Rattle.planning.specs.Texts.{route_text, none_text}
+use Rattle.planning.specs.Planned.{problem_on}
 
 -- a sheet of so many rows, and the estimates, suit the network
 pub record Suits {C L S : Type 0} (p : Problem C L S) (rows : ℕ) : Type 0 where
@@ -28,3 +35,27 @@ module _ {C N E L S : Type 0} (c : cost.Ghosts C L S) (n : network.Ghosts N C L 
   SearchStands net given rows (Ok (finished.Found r)) sheet = ((calls : List Call) × FoundBy c n e calls r sheet) × Reachable (posed c n e net given) r.cost × Least (posed c n e net given) r.cost
   SearchStands net given rows (Ok (finished.NoRoute r)) sheet = ((calls : List Call) × NoneBy c n e calls r) × NoRoute (posed c n e net given)
   SearchStands net given rows (Err f) sheet = Suits (posed c n e net given) rows → ⊥
+
+-- What is printed ---------------------------------------------------------------------------------
+
+module _ {C L S : Type 0} (p : Problem C L S) (text : List ℕ) where
+  -- a route, with every cost so far, and every route costs at least as much
+  pub record RouteTold : Type 0 where
+    pub steps : List (Step L)
+    pub taken : ℕ
+    pub listed : Listed p.kind p.net steps
+    pub least : Least p (last_cost p.kind.ops.zero steps)
+    pub told : text ≡ route_text p.kind (last_cost p.kind.ops.zero steps) taken steps
+
+  pub record NoneTold : Type 0 where
+    pub taken : ℕ
+    pub none : NoRoute p
+    pub told : text ≡ none_text taken
+
+  -- where the estimates suit the network, either is told
+  abbrev pub Told : Type 0
+  Told = Suits p p.net.stations → RouteTold ⊎ NoneTold
+
+-- of a page that is accepted, and whose estimates are consistent
+abbrev pub PlanStands : {C L S : Type 0} → cost.Ghosts C L S → List ℕ → List ℕ → Type 0
+PlanStands c page text = let p = problem_on c page in is_ok (check_page c.KIND page) ≡ true → Consistent p → RouteTold p text ⊎ NoneTold p text

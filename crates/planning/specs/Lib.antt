@@ -1,2 +1,4 @@
 pub mod Turns
+pub mod Texts
+pub mod Planned
 pub mod Claims

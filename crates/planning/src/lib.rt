@@ -1,4 +1,7 @@
 //! A page searched for its route of least cost: what is printed of it, and what is filed.
 #![tactic(auto)]
 
+mod blanks;
+pub mod plan;
+mod texts;
 pub mod turns;
