@@ -1,3 +1,4 @@
 pub mod Turning
 pub mod Rooms
 pub mod Telling
+pub mod Pages

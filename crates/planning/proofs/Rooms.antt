@@ -1,7 +1,7 @@
 -- A list with a place for each station holds the route.
-use Rattle.std.proofs.Common.{◌≡◌, ℕ, zero, suc, ◌+◌, ◌-◌, ◌<◌, ◌≤◌, Bool, true, false, true≢false, cond, ◌==◌, nat_lt, min, take, List, [], ◌∷◌, ◌++◌, length, reverse, is_ok, Some, None, Option, Ok, Err, Result, option_map, option_and_then, refl, sym, ap, ◌∙◌, arith, length-append}
+use Rattle.std.proofs.Common.{◌≡◌, ℕ, zero, suc, ◌+◌, ◌-◌, ◌<◌, ◌≤◌, Bool, true, false, true≢false, cond, ◌==◌, nat_lt, min, take, List, [], ◌∷◌, ◌++◌, length, reverse, is_ok, Some, None, Option, Ok, Err, Result, option_map, option_and_then, inl, inr, ◌⊎◌, refl, sym, ap, subst, ◌∙◌, arith, length-append}
 use Rattle.std.proofs.lemmas.List.{length-reverse, length-replicate}
-use Rattle.std.proofs.lemmas.Bool.{le-ltb}
+use Rattle.std.proofs.lemmas.Bool.{ltb-true}
 use Rattle.std.proofs.lemmas.Option.{none-some}
 use Rattle.std.specs.List.{slice_get}
 use Rattle.amounts.specs.declared.cost.Cost as cost
@@ -16,7 +16,7 @@ use Rattle.optimality.specs.declared.sheet.Row.{Row}
 use Rattle.optimality.specs.Problems.{start}
 use Rattle.filing.specs.Arrivals.{Line, through, arrival_at, before, back_from, followed, ahead_of, line}
 use Rattle.planning.specs.Planned.{blank_steps}
-use Rattle.filing.specs.Listing.{filing_fault, with_room, lined, routed_by, route_of}
+use Rattle.filing.specs.Listing.{filing_fault, cost_along, steps_along, with_room, lined, routed_by, route_of}
 
 module _ {C L S : Type 0} (net : Net S) (rows : List (Row C L S)) where
   some_same : {X : Type 0} (a b : X) → ◌≡◌ {A = Option X} (Some a) (Some b) → a ≡ b
@@ -59,40 +59,57 @@ module _ {C L S : Type 0} (net : Net S) (rows : List (Row C L S)) where
       behind None at e = absurd (none-some _ e)
       behind (Some ks) at e = ahead ks (followed_few Forward net.stations u ks at) (followed net rows Backward (net.stations - length ks) u) refl e
 
--- so Route never says that a list is too short
-module _ {C L S : Type 0} (c : cost.Ghosts C L S) (net : Net S) (steps turning : List (Step L)) (meeting : ℕ) (sheet : List (Row C L S)) (room : net.stations ≤ min (length steps) (length turning)) where
-  ok_err : {X Y : Type 0} (x : X) (y : Y) → ◌≡◌ {A = Result X Y} (Ok x) (Err y) → ⊥
-  ok_err x y e = true≢false (ap is_ok e)
+-- What Route answers over lists of so many places: fewer steps than stations, or 15, or 10 where there are fewer places.
+module _ {C L S : Type 0} (c : cost.Ghosts C L S) (net : Net S) (room : ℕ) where
+  abbrev Refused : Fault → Type 0
+  Refused f = (number_of f.refusal ≡ 15) ⊎ (number_of f.refusal ≡ 10) × (room < net.stations)
 
-  foreign_short : {X : Type 0} (rows places : ℕ) → ◌≡◌ {A = Result X Fault} (Err (filing_fault (ForeignSheet rows))) (Err (filing_fault (ListTooShort places))) → ⊥
-  foreign_short {X} rows places e = let numbers : ◌≡◌ {A = ℕ} 15 10 = ap (number X) e in absurd (omega (arith, numbers))
+  abbrev LineSeen : Result Line Fault → Type 0
+  LineSeen (Ok l) = length (through l) < net.stations
+  LineSeen (Err f) = Refused f
+
+  abbrev RouteSeen : Result ℕ Fault → Type 0
+  RouteSeen (Ok count) = count < net.stations
+  RouteSeen (Err f) = Refused f
+
+  line_seen : (meeting : ℕ) (sheet : List (Row C L S)) → LineSeen (lined net meeting sheet room)
+  line_seen meeting sheet = by_rows (nat_lt (length sheet) net.stations)
     where
-      number : (X : Type 0) → Result X Fault → ℕ
-      number X (Ok x) = 0
-      number X (Err f) = number_of f.refusal
+      by_room : (l : Line) → length (through l) < net.stations → (b : Bool) → nat_lt room (length (through l)) ≡ b → LineSeen (cond b (Err (filing_fault (ListTooShort room))) (Ok l))
+      by_room l few true short = inr (refl, omega (arith, ltb-true _ _ short, few))
+      by_room l few false fits = few
 
-  enough : (o : Option Line) → line net (take net.stations sheet) meeting ≡ o → (places : ℕ) → with_room (length sheet) (min (length steps) (length turning)) o ≡ Err (filing_fault (ListTooShort places)) → ⊥
-  enough None at places e = foreign_short (length sheet) places e
-  enough (Some l) at places e =
-      let fits = le-ltb (min (length steps) (length turning)) (length (through l)) (omega (arith, line_few net (take net.stations sheet) meeting l at, room)) in
-      ok_err _ _ (sym (ap (λ b. cond b (Err (filing_fault (ListTooShort (min (length steps) (length turning))))) (Ok l)) fits) ∙ e)
+      by_line : (o : Option Line) → line net (take net.stations sheet) meeting ≡ o → LineSeen (with_room (length sheet) room o)
+      by_line None at = inl refl
+      by_line (Some l) at = by_room l (line_few net (take net.stations sheet) meeting l at) (nat_lt room (length (through l))) refl
 
-  lined_enough : (short : Bool) (places : ℕ) → cond short (Err (filing_fault (ForeignSheet (length sheet)))) (with_room (length sheet) (min (length steps) (length turning)) (line net (take net.stations sheet) meeting)) ≡ Err (filing_fault (ListTooShort places)) → ⊥
-  lined_enough true places e = foreign_short (length sheet) places e
-  lined_enough false places e = enough (line net (take net.stations sheet) meeting) refl places e
+      by_rows : (b : Bool) → LineSeen (cond b (Err (filing_fault (ForeignSheet (length sheet)))) (with_room (length sheet) room (line net (take net.stations sheet) meeting)))
+      by_rows true = inl refl
+      by_rows false = by_line (line net (take net.stations sheet) meeting) refl
 
-  routed_enough : (r : Result Line Fault) (places : ℕ) → (r ≡ Err (filing_fault (ListTooShort places)) → ⊥) → (routed_by c net steps turning r).answer ≡ Err (filing_fault (ListTooShort places)) → ⊥
-  routed_enough (Ok l) places never e = ok_err _ _ e
-  routed_enough (Err f) places never e = never (err_again _ _ e)
-    where
-      err_again : {X Y : Type 0} (f g : Fault) → ◌≡◌ {A = Result X Fault} (Err f) (Err g) → ◌≡◌ {A = Result Y Fault} (Err f) (Err g)
-      err_again f g e = let same : f ≡ g = cc in ap Err same
+  length-steps_along : (a : L) (ks : List ℕ) → length (steps_along c net a ks) ≡ length ks
+  length-steps_along a [] = refl
+  length-steps_along a (k ∷ ks) = ap suc (length-steps_along (cost_along c net a k) ks)
 
-  never_short : (places : ℕ) → (route_of c net steps turning meeting sheet).answer ≡ Err (filing_fault (ListTooShort places)) → ⊥
-  never_short places e =
-      routed_enough (lined net meeting sheet (min (length steps) (length turning))) places (lined_enough (nat_lt (length sheet) net.stations) places) e
+  route_seen : (steps turning : List (Step L)) (r : Result Line Fault) → LineSeen r → RouteSeen ((routed_by c net steps turning r).answer)
+  route_seen steps turning (Ok l) few = subst (λ n. n < net.stations) (sym (length-steps_along c.ops.zero (through l))) few
+  route_seen steps turning (Err f) refused = refused
 
-pub blank_enough : {C L S : Type 0} (c : cost.Ghosts C L S) (net : Net S) (meeting : ℕ) (sheet : List (Row C L S)) (steps turning : List (Step L)) → steps ≡ blank_steps c net.stations → turning ≡ blank_steps c net.stations → (places : ℕ) → (route_of c net steps turning meeting sheet).answer ≡ Err (filing_fault (ListTooShort places)) → ⊥
-blank_enough c net meeting sheet steps turning blank other =
+-- over lists with a place for each station
+pub record Listing {S : Type 0} (net : Net S) (answer : Result ℕ Fault) : Type 0 where
+  pub few : (count : ℕ) → answer ≡ Ok count → count < net.stations
+  pub foreign : (f : Fault) → answer ≡ Err f → number_of f.refusal ≡ 15
+
+pub blank_listing : {C L S : Type 0} (c : cost.Ghosts C L S) (net : Net S) (meeting : ℕ) (sheet : List (Row C L S)) (steps turning : List (Step L)) → steps ≡ blank_steps c net.stations → turning ≡ blank_steps c net.stations → Listing net ((route_of c net steps turning meeting sheet).answer)
+blank_listing c net meeting sheet steps turning blank other =
     let place : Step _ = record { section = 0; from = 0; to = 0; so_far = c.ops.zero } in
-    never_short c net steps turning meeting sheet (omega (arith, ap length blank ∙ length-replicate net.stations place, ap length other ∙ length-replicate net.stations place))
+    let room : net.stations ≤ min (length steps) (length turning) = omega (arith, ap length blank ∙ length-replicate net.stations place, ap length other ∙ length-replicate net.stations place) in
+    by_answer ((route_of c net steps turning meeting sheet).answer) (route_seen c net (min (length steps) (length turning)) steps turning (lined net meeting sheet (min (length steps) (length turning))) (line_seen c net (min (length steps) (length turning)) meeting sheet)) room
+  where
+    by_answer : (a : Result ℕ Fault) → RouteSeen c net (min (length steps) (length turning)) a → net.stations ≤ min (length steps) (length turning) → Listing net a
+    by_answer (Ok count) few room = record { few = λ k is. let same : count ≡ k = cc in omega (arith, few, same); foreign = λ f is. absurd (true≢false (ap is_ok is)) }
+    by_answer (Err f) refused room =
+        record {
+          few = λ k is. absurd (true≢false (sym (ap is_ok is)));
+          foreign = λ h is. let same : f ≡ h = cc in sym (ap (λ f. number_of f.refusal) same) ∙ elim refused [ inl e ↦ e | inr short ↦ absurd (omega (arith, short.1, room)) ];
+        }

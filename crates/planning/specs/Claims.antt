@@ -1,10 +1,11 @@
--- What is claimed of a search in turn, and of what is printed of it, whatever the network, the estimates and the kind of
+-- What is claimed of a search in turn, and of what is printed and filed of it, whatever the network, the estimates and the kind of
 -- cost.
 --
 -- Where the sheet has a row for each station and the estimates count the stations and are consistent, it is turned down
 -- neither by a step nor by Finish: it answers the cost of a route that no route undercuts, or none where there is none.
--- What is printed then is such a route with every cost so far, or that there is none, and no refusal.
-use Rattle.std.specs.Prelude.{◌≡◌, ℕ, ◌≤◌, List, length, is_ok, true, Ok, Err, Result, ◌⊎◌}
+-- What is printed then is such a route with every cost so far, or that there is none, and no refusal. What is filed is a
+-- page that Read accepts, that means network, estimates and this answer, and that Retrace confirms where it has a route.
+use Rattle.std.specs.Prelude.{◌≡◌, ℕ, ◌≤◌, List, length, is_ok, IsOkAnd, true, Ok, Err, Result, ◌⊎◌}
 use Rattle.amounts.specs.declared.cost.Cost as cost
 use Rattle.networks.specs.declared.network.Network as network
 use Rattle.networks.specs.declared.estimates.Estimates as estimates
@@ -18,9 +19,14 @@ use Rattle.search.specs.Claims.{Call, Reachable, Least, NoRoute}
 use Rattle.filing.specs.Listing.{last_cost}
 use Rattle.filing.specs.Claims.{Listed, FoundBy, NoneBy}
 use Rattle.contents.specs.declared.answer.Step.{Step}
+use Rattle.contents.specs.Again.{Back}
 use Rattle.contents.specs.Checks.{check_page}
+use Rattle.contents.specs.Content.{net_of, answer_of}
+use Rattle.contents.specs.Retracing.{RetracedIn}
+use Rattle.filing.specs.Filing.{route_filed, none_filed}
 use Rattle.planning.specs.Texts.{route_text, none_text}
 use Rattle.planning.specs.Planned.{problem_on}
+use Rattle.planning.specs.Filed.{content_with}
 
 -- a sheet of so many rows, and the estimates, suit the network
 pub record Suits {C L S : Type 0} (p : Problem C L S) (rows : ℕ) : Type 0 where
@@ -59,3 +65,28 @@ module _ {C L S : Type 0} (p : Problem C L S) (text : List ℕ) where
 -- of a page that is accepted, and whose estimates are consistent
 abbrev pub PlanStands : {C L S : Type 0} → cost.Ghosts C L S → List ℕ → List ℕ → Type 0
 PlanStands c page text = let p = problem_on c page in is_ok (check_page c.KIND page) ≡ true → Consistent p → RouteTold p text ⊎ NoneTold p text
+
+-- What is filed -----------------------------------------------------------------------------------
+
+module _ {C L S : Type 0} (p : Problem C L S) (run : ℕ) where
+  -- a page with such a route, which Read accepts, and Retrace confirms
+  pub record RouteFiled (bytes : List ℕ) : Type 0 where
+    pub steps : List (Step L)
+    pub taken : ℕ
+    pub listed : Listed p.kind p.net steps
+    pub least : Least p (last_cost p.kind.ops.zero steps)
+    pub back : Back p.kind (content_with p (route_filed p.kind run taken steps)) bytes
+    pub retraces : RetracedIn p.kind (net_of p.kind bytes) (answer_of p.kind bytes)
+
+  pub record NoneFiled (bytes : List ℕ) : Type 0 where
+    pub taken : ℕ
+    pub none : NoRoute p
+    pub back : Back p.kind (content_with p (none_filed p.kind run taken)) bytes
+
+  -- where the estimates suit the network, either is filed
+  abbrev pub Filed : Result (List ℕ) Fault → Type 0
+  Filed r = Suits p p.net.stations → IsOkAnd r (λ bytes. RouteFiled bytes ⊎ NoneFiled bytes)
+
+-- of a page that is accepted, and whose estimates are consistent
+abbrev pub FiledStands : {C L S : Type 0} → cost.Ghosts C L S → ℕ → List ℕ → Result (List ℕ) Fault → Type 0
+FiledStands c run page r = let p = problem_on c page in is_ok (check_page c.KIND page) ≡ true → Consistent p → IsOkAnd r (λ bytes. RouteFiled p run bytes ⊎ NoneFiled p run bytes)

@@ -1,4 +1,5 @@
 pub mod Turns
 pub mod Texts
 pub mod Planned
+pub mod Filed
 pub mod Claims

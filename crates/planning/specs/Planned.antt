@@ -13,7 +13,7 @@ use Rattle.optimality.specs.Sheets.{State, blank_row}
 use Rattle.optimality.specs.Problems.{Problem}
 use Rattle.filing.specs.Listing.{Routed, route_of}
 use Rattle.showing.specs.Shown.{says_moves}
-use Rattle.planning.specs.Turns.{come_to}
+use Rattle.planning.specs.Turns.{made_of}
 use Rattle.planning.specs.Texts.{route_text, none_text, refused_text}
 
 module _ {C L S : Type 0} (c : cost.Ghosts C L S) where
@@ -34,21 +34,9 @@ module _ {C L S : Type 0} (c : cost.Ghosts C L S) where
     abbrev pub found_text : L → ℕ → ℕ → List (Row C L S) → List ℕ
     found_text cost taken meeting sheet = let r = listed meeting sheet in text_listed cost taken r r.answer
 
-module _ {C L S : Type 0} (p : Problem C L S) where
-  abbrev pub blank_sheet : List (Row C L S)
-  blank_sheet = replicate p.net.stations blank_row
-
-  abbrev pub concluded_text : State C L S → Ceiling L → List ℕ
-  concluded_text st Absent = none_text st.taken
-  concluded_text st (Met cost meeting) = found_text p.kind p.net cost st.taken meeting st.rows
-
-  abbrev pub text_by : Result (State C L S) Fault → List ℕ
-  text_by (Ok st) = concluded_text st st.ceiling
-  text_by (Err f) = refused_text f
-
-  -- what is printed of a search over a sheet with a row for each station
-  abbrev pub text_of : List ℕ
-  text_of = text_by (come_to p blank_sheet)
+-- what is printed of a search over a sheet with a row for each station
+abbrev pub text_of : {C L S : Type 0} → Problem C L S → List ℕ
+text_of p = made_of p (found_text p.kind p.net) none_text refused_text
 
 module _ {C L S : Type 0} (c : cost.Ghosts C L S) where
   -- the network and the estimates of an accepted page

@@ -1,5 +1,5 @@
 -- A search that goes forward and backward in turn until it is ended.
-use Rattle.std.specs.Prelude.{ℕ, zero, suc, cond, List, length, is_ok, Some, None, Option, Ok, Err, Result}
+use Rattle.std.specs.Prelude.{ℕ, zero, suc, cond, List, replicate, length, is_ok, Some, None, Option, Ok, Err, Result}
 use Rattle.amounts.specs.declared.cost.Cost as cost
 use Rattle.networks.specs.declared.network.Network as network
 use Rattle.networks.specs.declared.estimates.Estimates as estimates
@@ -8,11 +8,18 @@ use Rattle.faults.specs.declared.Side.{Side}
 use Rattle.faults.specs.declared.Side.TheVariants.{Forward}
 use Rattle.faults.specs.declared.Fault.{Fault}
 use Rattle.faults.specs.declared.Refusal.{Refusal}
+use Rattle.networks.specs.Nets.{Net}
 use Rattle.optimality.specs.declared.sheet.Row.{Row}
-use Rattle.optimality.specs.Sheets.{State}
+use Rattle.optimality.specs.declared.sheet.Ceiling.{Ceiling}
+use Rattle.optimality.specs.declared.sheet.Ceiling.TheVariants.{Absent, Met}
+use Rattle.optimality.specs.Sheets.{State, blank_row}
 use Rattle.optimality.specs.Problems.{Problem}
 use Rattle.search.specs.declared.running.Finished.{Finished}
 use Rattle.search.specs.Calls.{search_fault, running, begun, unfit, step, conclusion, posed}
+
+-- a sheet with a row for each station
+abbrev pub blank_sheet : {C L S : Type 0} → Net S → List (Row C L S)
+blank_sheet net = replicate net.stations blank_row
 
 module _ {C L S : Type 0} (p : Problem C L S) where
   -- steps on one side and the other, so many at most, until one is turned down
@@ -27,6 +34,21 @@ module _ {C L S : Type 0} (p : Problem C L S) where
   -- What the search comes to, forward first: no station is taken twice, so there are no more steps than stations.
   abbrev pub come_to : List (Row C L S) → Result (State C L S) Fault
   come_to sheet = opened_to sheet (unfit p (length sheet))
+
+  -- What is made of what it comes to: of a route's cost, the stations taken, the station where its halves meet, and the
+  -- sheet; of the stations taken where there is no route; or of the fault.
+  module _ {X : Type 0} (found : L → ℕ → ℕ → List (Row C L S) → X) (none : ℕ → X) (refused : Fault → X) where
+    abbrev pub concluded_as : State C L S → Ceiling L → X
+    concluded_as st Absent = none st.taken
+    concluded_as st (Met cost meeting) = found cost st.taken meeting st.rows
+
+    abbrev pub come_as : Result (State C L S) Fault → X
+    come_as (Ok st) = concluded_as st st.ceiling
+    come_as (Err f) = refused f
+
+    -- over a sheet with a blank row for each station
+    abbrev pub made_of : X
+    made_of = come_as (come_to (blank_sheet p.net))
 
 -- What a search in turn answers, and what the sheet then holds.
 pub record Searched (C N E L S : Type 0) : Type 0 where

@@ -2,10 +2,15 @@
 ghost use Rattle.std.specs.Prelude.{◌≡◌, replicate, IfOk};
 ghost use Rattle.optimality.specs.Sheets.{blank_row};
 ghost use Rattle.planning.specs.Planned.{blank_steps};
+ghost use Rattle.planning.specs.Filed.{blank_page};
 
 use amounts::cost::Cost;
 use contents::answer::Step;
+use networks::network::Network;
 use optimality::sheet::Row;
+use records::kinds::{
+    AnswerRecord, EndRecord, EstimateRecord, HeaderRecord, SectionRecord, StepRecord,
+};
 use std::alloc::{AllocError, Global};
 
 /// A sheet of so many rows.
@@ -37,4 +42,21 @@ pub(crate) fn blank_steps<C: Cost>(
         steps.push(blank)?;
     }
     Ok(steps)
+}
+
+/// A page with room for a network, its estimates and an answer with a step for each station.
+pub(crate) fn blank_page<C: Cost, N: Network<C>>(
+    heap: Global,
+    net: &N,
+) -> Result<Vec<u8>, AllocError>
+    ensures { IfOk result (λ v. v.items ≡ blank_page (N.Network.meaning net.now)) }
+{
+    let stations = net.stations();
+    let room = HeaderRecord::SIZE
+        + SectionRecord::SIZE * net.sections()
+        + EstimateRecord::SIZE * stations
+        + AnswerRecord::SIZE
+        + StepRecord::SIZE * stations
+        + EndRecord::SIZE;
+    vec![in heap; 0; room]
 }

@@ -2,6 +2,7 @@
 #![tactic(auto)]
 
 mod blanks;
+pub mod filed;
 pub mod plan;
 mod texts;
 pub mod turns;

@@ -2,13 +2,14 @@ use Rattle.std.proofs.Common.{◌≡◌, ◌≤◌, min, length, take, List, ℕ
 use Rattle.std.proofs.lemmas.Result.{IfOk-weaker}
 use Rattle.std.proofs.lemmas.List.{length-replicate}
 use Rattle.amounts.specs.declared.cost.Cost as cost
+use Rattle.faults.specs.Faults.{number_of}
 use Rattle.contents.specs.declared.answer.Step.{Step}
 use Rattle.search.specs.Calls.{posed}
 use Rattle.filing.specs.Listing.{route_of}
 use Rattle.planning.specs.Texts.{route_text, refused_text}
 use Rattle.planning.specs.Planned.{blank_steps, found_text}
 use Rattle.planning.specs.Claims.{RouteTold}
-use Rattle.planning.proofs.Rooms.{blank_enough}
+use Rattle.planning.proofs.Rooms.{blank_listing}
 use Rattle.planning.proofs.Telling.{written, route_listed, listed_text, route_told}
 use Rattle.planning.proofs.plan.found_text.Given as given
 use Rattle.planning.proofs.plan.found_text.Goals as goal
@@ -55,5 +56,7 @@ returns g c =
       exact = IfOk-weaker c.refused_text.result _ _ (λ s is. is ∙ listed_text kind net found.meeting c.args.sheet.now found.cost found.taken _ routed (Err c.in-Err.fault) c.in-Err.is) c.refused_text.ensures;
       stands = λ calls own.
           let short = c.in-Err.ensures.stands calls own in
-          absurd (blank_enough kind net found.meeting c.args.sheet.now _ _ (blank g at) (turning g at) short.0 (sym (ap (λ r. r.answer) c.route.ensures.exact) ∙ c.in-Err.is ∙ ap Err short.1));
+          let foreign = (blank_listing kind net found.meeting c.args.sheet.now _ _ (blank g at) (turning g at)).foreign c.in-Err.fault (sym (ap (λ r. r.answer) c.route.ensures.exact) ∙ c.in-Err.is) in
+          let numbers : ◌≡◌ {A = ℕ} 10 15 = sym (ap (λ f. number_of f.refusal) short.1) ∙ foreign in
+          absurd (omega (arith, numbers));
     }

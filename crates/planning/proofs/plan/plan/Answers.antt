@@ -1,4 +1,4 @@
-use Rattle.std.proofs.Common.{rules, ◌≡◌, false, cond, sym, subst, arith, string_bytes}
+use Rattle.std.proofs.Common.{◌≡◌, false, cond, sym, subst, arith, string_bytes}
 use Rattle.std.proofs.lemmas.Result.{IfOk-weaker}
 use Rattle.std.proofs.lemmas.Grind.{common_steps}
 use Rattle.amounts.specs.contracts.kinds.MovesCost.TheImpl as moves
