@@ -4,5 +4,6 @@
 mod blanks;
 pub mod filed;
 pub mod plan;
+pub mod run;
 mod texts;
 pub mod turns;
