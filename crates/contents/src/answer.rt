@@ -23,7 +23,7 @@ impl From<u8> for Outcome {
 }
 
 /// A step of a route: a section, its ends, and the cost up to its end.
-#[derive(Clone, Copy)]
+#[derive(Clone, Copy, Debug, PartialEq, Eq)]
 pub struct Step<L> {
     pub section: usize,
     pub from: usize,
