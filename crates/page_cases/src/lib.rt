@@ -5,5 +5,4 @@
 mod damage_tests;
 #[cfg(test)]
 mod round_trip_tests;
-#[cfg(test)]
-mod worked;
+pub mod worked;
