@@ -1,5 +1,5 @@
 -- What is filed is what the search came to, and a page with room for it is not refused.
-use Rattle.std.proofs.Common.{◌≡◌, ℕ, zero, suc, ◌+◌, ◌-◌, ◌*◌, ◌^◌, ◌<◌, ◌≤◌, min, Bool, true, false, true≢false, cond, ◌==◌, nat_lt, List, [], ◌∷◌, length, take, inl, inr, ◌⊎◌, is_ok, IsOkAnd, Some, None, Option, Ok, Err, Result, refl, sym, ap, ap₂, subst, subst₂, ◌∙◌, arith}
+use Rattle.std.proofs.Common.{◌≡◌, ℕ, zero, suc, ◌+◌, ◌-◌, ◌*◌, ◌^◌, ◌<◌, ◌≤◌, min, Bool, true, false, true≢false, cond, ◌==◌, nat_lt, List, [], ◌∷◌, length, take, inl, inr, ◌⊎◌, is_ok, IsOkAnd, Some, None, Option, Ok, Err, Result, refl, sym, ap, ap₂, subst, ◌∙◌, arith}
 use Rattle.std.proofs.lemmas.Bool.{ltb-true, eqb-true}
 use Rattle.std.proofs.lemmas.Option.{none-some}
 use Rattle.std.proofs.lemmas.List.{length-replicate}
@@ -22,7 +22,7 @@ use Rattle.search.specs.Calls.{posed}
 use Rattle.search.specs.Claims.{Least}
 use Rattle.filing.specs.Listing.{Routed, route_of}
 use Rattle.filing.specs.Claims.{FiledBy, FileStands, NoneFiledBy, FileNoneStands}
-use Rattle.filing.specs.Filing.{Filing, route_filed, none_filed, filed_by, filing_by, written, file_of, file_none_of}
+use Rattle.filing.specs.Filing.{Filing, route_filed, none_filed, filed_by, filing_by, file_of, file_none_of}
 use Rattle.planning.specs.Planned.{blank_steps, listed}
 use Rattle.planning.specs.Filed.{cut_to, blank_page, content_with, written_with, filed_listed}
 use Rattle.planning.specs.Claims.{RouteFiled, NoneFiled}

@@ -1,5 +1,5 @@
 -- A list with a place for each station holds the route.
-use Rattle.std.proofs.Common.{◌≡◌, ℕ, zero, suc, ◌+◌, ◌-◌, ◌<◌, ◌≤◌, Bool, true, false, true≢false, cond, ◌==◌, nat_lt, min, take, List, [], ◌∷◌, ◌++◌, length, reverse, is_ok, Some, None, Option, Ok, Err, Result, option_map, option_and_then, inl, inr, ◌⊎◌, refl, sym, ap, subst, ◌∙◌, arith, length-append}
+use Rattle.std.proofs.Common.{◌≡◌, ℕ, zero, suc, ◌-◌, ◌<◌, ◌≤◌, Bool, true, false, true≢false, cond, ◌==◌, nat_lt, min, take, List, [], ◌∷◌, length, reverse, is_ok, Some, None, Option, Ok, Err, Result, option_map, option_and_then, inl, inr, ◌⊎◌, refl, sym, ap, subst, ◌∙◌, arith, length-append}
 use Rattle.std.proofs.lemmas.List.{length-reverse, length-replicate}
 use Rattle.std.proofs.lemmas.Bool.{ltb-true}
 use Rattle.std.proofs.lemmas.Option.{none-some}

@@ -1,5 +1,5 @@
 -- The text of an answer is that of what the search came to.
-use Rattle.std.proofs.Common.{◌≡◌, ℕ, List, Ok, Err, Result, IfOk, refl, inl, inr, arith, sym, ap, ap₂, subst, subst₂, ◌∙◌, string_bytes, take, drop, length, ◌++◌, String, Global}
+use Rattle.std.proofs.Common.{◌≡◌, ℕ, List, Ok, Err, Result, refl, arith, sym, ap, ap₂, subst, ◌∙◌, take, drop, length, ◌++◌}
 use Rattle.std.proofs.Math.Seq.{take-append_seam}
 use Rattle.std.proofs.lemmas.List.{length-replicate, length-map}
 use Rattle.records.specs.Shapes.{decoded_run}
@@ -27,7 +27,7 @@ use Rattle.search.specs.Claims.{Call, Least, NoRoute as No}
 use Rattle.filing.specs.Listing.{Routed, route_of, last_cost}
 use Rattle.filing.specs.Claims.{Listed, FoundBy, NoneBy}
 use Rattle.planning.specs.Turns.{blank_sheet, come_to, concluded_as, come_as, made_of, Searched, searched_by, searched_of}
-use Rattle.planning.specs.Texts.{route_text, none_text, refused_text}
+use Rattle.planning.specs.Texts.{route_text}
 use Rattle.planning.specs.Planned.{blank_steps, listed, text_listed, found_text, problem_on}
 use Rattle.planning.specs.Claims.{Suits, SearchStands, RouteTold, Told, PlanStands, Filed, FiledStands}
 

@@ -6,7 +6,7 @@ use Rattle.faults.specs.declared.Fault.{Fault}
 use Rattle.networks.specs.Nets.{Net}
 use Rattle.contents.specs.Checks.{check_page}
 use Rattle.contents.specs.Content.{Meant, Content}
-use Rattle.contents.specs.Writing.{Written, write_of}
+use Rattle.contents.specs.Writing.{write_of}
 use Rattle.optimality.specs.declared.sheet.Row.{Row}
 use Rattle.optimality.specs.Problems.{Problem}
 use Rattle.filing.specs.Listing.{Routed}

@@ -1,5 +1,5 @@
 -- What is printed of a search in turn.
-use Rattle.std.specs.Prelude.{ℕ, cond, List, replicate, length, take, Ok, Err, Result}
+use Rattle.std.specs.Prelude.{ℕ, cond, List, replicate, take, Ok, Err, Result}
 use Rattle.amounts.specs.declared.cost.Cost as cost
 use Rattle.faults.specs.declared.Fault.{Fault}
 use Rattle.networks.specs.Nets.{Net}
@@ -7,9 +7,6 @@ use Rattle.contents.specs.declared.answer.Step.{Step}
 use Rattle.contents.specs.Checks.{check_page}
 use Rattle.contents.specs.Content.{net_of, pairs_of}
 use Rattle.optimality.specs.declared.sheet.Row.{Row}
-use Rattle.optimality.specs.declared.sheet.Ceiling.{Ceiling}
-use Rattle.optimality.specs.declared.sheet.Ceiling.TheVariants.{Absent, Met}
-use Rattle.optimality.specs.Sheets.{State, blank_row}
 use Rattle.optimality.specs.Problems.{Problem}
 use Rattle.filing.specs.Listing.{Routed, route_of}
 use Rattle.showing.specs.Shown.{says_moves}

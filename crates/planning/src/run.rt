@@ -1,4 +1,5 @@
 //! The program: a page on standard input; on standard output its plan, or the page that is filed of it.
+use crate::asked::Asked;
 use crate::filed::filed;
 use crate::plan::plan;
 use anyhow::{anyhow, bail};
@@ -6,32 +7,18 @@ use showing::run::page_in;
 use std::io::Write;
 use std::{env, io};
 
-/// What the words on the command line ask for.
-#[derive(Clone, Copy)]
-enum Asked {
-    Plan,
-    File { run: u32 },
-}
-
-/// A plan where there is no word, a filed page for `file RUN`, and nothing for other words.
-fn understood(rt: &HostRuntime) -> anyhow::Result<Option<Asked>> {
-    let mut words = env::args(rt)?.skip(1);
-    let Some(word) = words.next() else {
-        return Ok(Some(Asked::Plan));
-    };
-    let (Some(number), None) = (words.next(), words.next()) else {
-        return Ok(None);
-    };
-    if word.as_str() != "file" {
-        return Ok(None);
+/// The words on the command line.
+fn words(rt: &HostRuntime) -> anyhow::Result<Vec<String>> {
+    let mut words = Vec::new(rt.alloc());
+    for word in env::args(rt)?.skip(1) {
+        words.push(word)?;
     }
-    let run = number.as_str().parse::<u32>().ok();
-    Ok(run.map(|run| Asked::File { run }))
+    Ok(words)
 }
 
 /// Prints the plan of the page on standard input, or writes the filed page; a refusal to file writes nothing there.
 pub fn run(rt: &HostRuntime) -> anyhow::Result<()> {
-    let Some(asked) = understood(rt)? else {
+    let Some(asked) = Asked::by(words(rt)?.as_slice()) else {
         bail!("usage: planner [file RUN]");
     };
     let page = page_in(rt)?;

@@ -1,14 +1,8 @@
-use Rattle.std.proofs.Common.{◌≡◌, ◌≤◌, min, length, take, List, ℕ, Ok, Err, sym, ap, ap₂, ◌∙◌, arith, string_bytes, subst}
+use Rattle.std.proofs.Common.{◌≡◌, length, take, ℕ, Ok, Err, sym, ap, ap₂, ◌∙◌, arith, string_bytes}
 use Rattle.std.proofs.lemmas.Result.{IfOk-weaker}
-use Rattle.std.proofs.lemmas.List.{length-replicate}
-use Rattle.amounts.specs.declared.cost.Cost as cost
 use Rattle.faults.specs.Faults.{number_of}
-use Rattle.contents.specs.declared.answer.Step.{Step}
-use Rattle.search.specs.Calls.{posed}
-use Rattle.filing.specs.Listing.{route_of}
-use Rattle.planning.specs.Texts.{route_text, refused_text}
-use Rattle.planning.specs.Planned.{blank_steps, found_text}
-use Rattle.planning.specs.Claims.{RouteTold}
+use Rattle.planning.specs.Texts.{route_text}
+use Rattle.planning.specs.Planned.{blank_steps}
 use Rattle.planning.proofs.Rooms.{blank_listing}
 use Rattle.planning.proofs.Telling.{written, route_listed, listed_text, route_told}
 use Rattle.planning.proofs.plan.found_text.Given as given

@@ -2,7 +2,6 @@ use Rattle.std.proofs.Common.{◌≡◌, replicate, length, Ok, Err, inl, inr, s
 use Rattle.std.proofs.lemmas.Result.{IfOk-weaker}
 use Rattle.optimality.specs.Sheets.{blank_row}
 use Rattle.search.specs.declared.running.Finished.TheVariants as finished
-use Rattle.search.specs.Calls.{posed}
 use Rattle.filing.specs.Claims.{FoundBy}
 use Rattle.planning.specs.Turns.{blank_sheet, Searched}
 use Rattle.planning.specs.Texts.{none_text, refused_text}
