@@ -33,9 +33,6 @@ module _ {C L S : Type 0} (c : cost.Ghosts C L S) where
       by true false None z = refl
 
   module _ (net : Net S) where
-    some_true : {X : Type 0} (o : Option X) (x : X) → o ≡ Some x → is_some o ≡ true
-    some_true o x e = ap is_some e
-
     step_holds : (s : Step L) → StepValid c net.sections s → step_good c net s ≡ true
     step_holds s v =
         let x = v.section in

@@ -68,9 +68,6 @@ module _ {C L S : Type 0} (c : cost.Ghosts C L S) (net : Net S) (meeting : ℕ) 
     pub turning_fits : h.behind ≤ length turning
     turning_fits = omega (arith, p.fits, through_long, room_is)
 
-    pub steps_fit : h.behind + h.ahead ≤ length steps
-    steps_fit = omega (arith, p.fits, through_long, room_is)
-
     -- the sections bare, in the order of the route
     bare_through : reverse (bare_steps c net l.behind) ++ bare_steps c net l.ahead ≡ bare_steps c net (through l)
     bare_through = ap (λ ss. ss ++ bare_steps c net l.ahead) (map_turned (λ k. step_at c net k c.ops.zero) l.behind) ∙ sym (map-append (λ k. step_at c net k c.ops.zero) (reverse l.behind) l.ahead)

@@ -1,63 +1,19 @@
 -- A list with a place for each station holds the route.
-use Rattle.std.proofs.Common.{◌≡◌, ℕ, zero, suc, ◌-◌, ◌<◌, ◌≤◌, Bool, true, false, true≢false, cond, ◌==◌, nat_lt, min, take, List, [], ◌∷◌, length, reverse, is_ok, Some, None, Option, Ok, Err, Result, option_map, option_and_then, inl, inr, ◌⊎◌, refl, sym, ap, subst, ◌∙◌, arith, length-append}
-use Rattle.std.proofs.lemmas.List.{length-reverse, length-replicate}
+use Rattle.std.proofs.Common.{◌≡◌, ℕ, ◌<◌, ◌≤◌, Bool, true, false, true≢false, cond, nat_lt, min, take, List, [], length, is_ok, Some, None, Option, Ok, Err, Result, inl, inr, ◌⊎◌, refl, sym, ap, subst, ◌∙◌, arith}
+use Rattle.std.proofs.lemmas.List.{length-replicate}
 use Rattle.std.proofs.lemmas.Bool.{ltb-true}
-use Rattle.std.proofs.lemmas.Option.{none-some}
-use Rattle.std.specs.List.{slice_get}
 use Rattle.amounts.specs.declared.cost.Cost as cost
 use Rattle.faults.specs.Faults.{number_of}
-use Rattle.faults.specs.declared.Side.{Side}
-use Rattle.faults.specs.declared.Side.TheVariants.{Forward, Backward}
 use Rattle.faults.specs.declared.Fault.{Fault}
 use Rattle.faults.specs.declared.Refusal.TheVariants.{ForeignSheet, ListTooShort}
 use Rattle.networks.specs.Nets.{Net}
 use Rattle.contents.specs.declared.answer.Step.{Step}
 use Rattle.optimality.specs.declared.sheet.Row.{Row}
-use Rattle.optimality.specs.Problems.{start}
-use Rattle.filing.specs.Arrivals.{Line, through, arrival_at, before, back_from, followed, ahead_of, line}
+use Rattle.filing.specs.Arrivals.{Line, through, line}
 use Rattle.planning.specs.Planned.{blank_steps}
-use Rattle.filing.specs.Listing.{filing_fault, cost_along, steps_along, with_room, lined, routed_by, route_of}
-
-module _ {C L S : Type 0} (net : Net S) (rows : List (Row C L S)) where
-  some_same : {X : Type 0} (a b : X) → ◌≡◌ {A = Option X} (Some a) (Some b) → a ≡ b
-  some_same a b e = cc
-
-  followed_few : (side : Side) (n u : ℕ) (ks : List ℕ) → followed net rows side n u ≡ Some ks → length ks < n
-  followed_few side zero u ks e = absurd (none-some _ e)
-  followed_few side (suc n) u ks e = at (arrival_at rows side u) (λ v js. followed_few side n v js) e
-    where
-      ends : (b : Bool) → cond b (Some []) None ≡ Some ks → length ks < suc n
-      ends true e = let none : [] ≡ ks = some_same _ _ e in omega (arith, ap length none)
-      ends false e = absurd (none-some _ e)
-
-      longer : (k : ℕ) (o : Option (List ℕ)) → ((js : List ℕ) → o ≡ Some js → length js < n) → option_map (λ js. k ∷ js) o ≡ Some ks → length ks < suc n
-      longer k None shorter e = absurd (none-some _ e)
-      longer k (Some js) shorter e = let more : k ∷ js ≡ ks = some_same _ _ e in omega (arith, shorter js refl, ap length more)
-
-      leads : (k : ℕ) (o : Option ℕ) → ((v : ℕ) (js : List ℕ) → followed net rows side n v ≡ Some js → length js < n) → option_and_then (λ v. option_map (λ js. k ∷ js) (followed net rows side n v)) o ≡ Some ks → length ks < suc n
-      leads k None shorter e = absurd (none-some _ e)
-      leads k (Some v) shorter e = longer k (followed net rows side n v) (shorter v) e
-
-      at : (o : Option ℕ) → ((v : ℕ) (js : List ℕ) → followed net rows side n v ≡ Some js → length js < n) → back_from net rows side (followed net rows side n) u o ≡ Some ks → length ks < suc n
-      at None shorter e = ends (u == start net side) e
-      at (Some k) shorter e = leads k (before side u (slice_get net.sections k)) shorter e
-
-  line_few : (u : ℕ) (l : Line) → line net rows u ≡ Some l → length (through l) < net.stations
-  line_few u l e = behind (followed net rows Forward net.stations u) refl e
-    where
-      both : (ks js : List ℕ) → length ks < net.stations → length js < net.stations - length ks → record { behind = ks; ahead = js } ≡ l → length (through l) < net.stations
-      both ks js few more is =
-          let first : ks ≡ l.behind = ap (λ l. l.behind) is in
-          let then : js ≡ l.ahead = ap (λ l. l.ahead) is in
-          omega (arith, length-append (reverse l.behind) l.ahead, length-reverse l.behind, ap length first, ap length then)
-
-      ahead : (ks : List ℕ) → length ks < net.stations → (o : Option (List ℕ)) → followed net rows Backward (net.stations - length ks) u ≡ o → option_map (λ js. record { behind = ks; ahead = js }) o ≡ Some l → length (through l) < net.stations
-      ahead ks few None at e = absurd (none-some _ e)
-      ahead ks few (Some js) at e = both ks js few (followed_few Backward (net.stations - length ks) u js at) (some_same _ _ e)
-
-      behind : (o : Option (List ℕ)) → followed net rows Forward net.stations u ≡ o → option_and_then (ahead_of net rows u) o ≡ Some l → length (through l) < net.stations
-      behind None at e = absurd (none-some _ e)
-      behind (Some ks) at e = ahead ks (followed_few Forward net.stations u ks at) (followed net rows Backward (net.stations - length ks) u) refl e
+use Rattle.filing.proofs.Joined.{line_joined}
+use Rattle.filing.proofs.Lists.{length_along}
+use Rattle.filing.specs.Listing.{filing_fault, with_room, lined, routed_by, route_of}
 
 -- What Route answers over lists of so many places: fewer steps than stations, or 15, or 10 where there are fewer places.
 module _ {C L S : Type 0} (c : cost.Ghosts C L S) (net : Net S) (room : ℕ) where
@@ -81,18 +37,14 @@ module _ {C L S : Type 0} (c : cost.Ghosts C L S) (net : Net S) (room : ℕ) whe
 
       by_line : (o : Option Line) → line net (take net.stations sheet) meeting ≡ o → LineSeen (with_room (length sheet) room o)
       by_line None at = inl refl
-      by_line (Some l) at = by_room l (line_few net (take net.stations sheet) meeting l at) (nat_lt room (length (through l))) refl
+      by_line (Some l) at = by_room l ((line_joined (record { kind = c; net = net; estimates = [] }) (take net.stations sheet) meeting l at).few) (nat_lt room (length (through l))) refl
 
       by_rows : (b : Bool) → LineSeen (cond b (Err (filing_fault (ForeignSheet (length sheet)))) (with_room (length sheet) room (line net (take net.stations sheet) meeting)))
       by_rows true = inl refl
       by_rows false = by_line (line net (take net.stations sheet) meeting) refl
 
-  length-steps_along : (a : L) (ks : List ℕ) → length (steps_along c net a ks) ≡ length ks
-  length-steps_along a [] = refl
-  length-steps_along a (k ∷ ks) = ap suc (length-steps_along (cost_along c net a k) ks)
-
   route_seen : (steps turning : List (Step L)) (r : Result Line Fault) → LineSeen r → RouteSeen ((routed_by c net steps turning r).answer)
-  route_seen steps turning (Ok l) few = subst (λ n. n < net.stations) (sym (length-steps_along c.ops.zero (through l))) few
+  route_seen steps turning (Ok l) few = subst (λ n. n < net.stations) (sym (length_along c net c.ops.zero (through l))) few
   route_seen steps turning (Err f) refused = refused
 
 -- over lists with a place for each station
