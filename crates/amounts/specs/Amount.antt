@@ -52,3 +52,11 @@ total o worth (x ∷ xs) = o.plus (worth x) (total o worth xs)
 pub record SectionFit {L : Type 0} (o : Ops L) (a : L) : Type 0 where
   pub at_least_zero : Le o o.zero a
   pub small : o.size a < 2 ^ 32
+
+-- What a kind says of its ranges: which amounts a section may have, and which an estimate may be.
+pub record RangeLaws {L S : Type 0} (o : Ops L) (worth : S → L) (section_range : S → Type 0) (estimate_range : L → Type 0) : Type 0 where
+  -- a section's amount in range is at least zero, and of size at most 2^32 - 1
+  pub section : (s : S) → section_range s → SectionFit o (worth s)
+  -- an estimate in range is of size at most 2^44 - 1
+  pub estimate : (a : L) → estimate_range a → o.size a < 2 ^ 44
+  pub zero : estimate_range o.zero

@@ -7,8 +7,8 @@ use Rattle.std.specs.List.{AllByRecursion}
 use Rattle.std.proofs.lemmas.Bool.{lt-ltb}
 use Rattle.amounts.specs.Amount.{total}
 use Rattle.amounts.specs.Forms.{SectionRange, TotalsOnPage, label_form}
-use Rattle.amounts.specs.Kinds.{field, both, samples, samples_parts, samples_shown, moves, label, moves_worth, moves_shown}
-use Rattle.amounts.specs.declared.cost.SectionForm.{SectionForm}
+use Rattle.amounts.specs.Kinds.{field, both, samples, samples_shown, samples_forms, samples_section, moves, label, moves_worth, moves_shown, moves_forms}
+use Rattle.amounts.specs.declared.forms.SectionForm.{SectionForm}
 
 -- the sum of a part over a list
 sum_of : {X : Type 0} → (X → ℕ) → List X → ℕ
@@ -29,10 +29,10 @@ unfolding sum_of
 total_samples [] = refl
 total_samples (s ∷ ss) = ap (λ a. pos s +ℤ a) (total_samples ss)
 
-pub totals_samples : TotalsOnPage samples pos samples_parts samples_shown
+pub totals_samples : TotalsOnPage samples pos samples_section samples_forms
 totals_samples ss h few =
     let n = sum_of (λ s. s) ss in
-    let b = bounded (λ s. s) (λ s. SectionRange (samples_parts s)) (2 ^ 32) (λ s r. r.samples) ss h in
+    let b = bounded (λ s. s) samples_section (2 ^ 32) (λ s r. r) ss h in
     (label_form 0 n, ap samples_shown (total_samples ss) ∙ ap (both (Some 0)) (field_of (2 ^ 44) n (omega arith)))
 
 total_moves : (ss : List SectionForm) → total moves moves_worth ss ≡ label (pos (sum_of (λ s. s.moves) ss)) (pos (sum_of (λ s. s.samples) ss))
@@ -40,7 +40,7 @@ unfolding sum_of
 total_moves [] = refl
 total_moves (s ∷ ss) = ap (λ a. moves.plus (moves_worth s) a) (total_moves ss)
 
-pub totals_moves : TotalsOnPage moves moves_worth (λ s. s) moves_shown
+pub totals_moves : TotalsOnPage moves moves_worth SectionRange moves_forms
 totals_moves ss h few =
     let m = sum_of (λ s. s.moves) ss in
     let n = sum_of (λ s. s.samples) ss in

@@ -1,28 +1,8 @@
 //! What a kind of cost gives.
-ghost use Rattle.std.specs.Prelude.{◌≡◌, ℕ, Option};
-ghost use Rattle.amounts.specs.Amount.{Ops, Laws, SectionFit, computed};
-ghost use Rattle.amounts.specs.Forms.{SectionLaws, LabelLaws, KindLaws, TotalsOnPage, told_section};
-ghost use Rattle.amounts.specs.declared.cost.SectionForm.{SectionForm};
-ghost use Rattle.amounts.specs.declared.cost.LabelForm.{LabelForm};
+ghost use Rattle.std.specs.Prelude.{◌≡◌, ℕ};
+ghost use Rattle.amounts.specs.Amount.{Ops, Laws, SectionFit, RangeLaws, computed};
 
-// Kept: two structs; one over the types of its fields would be one type of two numbers to a clause, and a label's form
-// could stand where a section's is meant.
-
-/// A section's amount as it stands on a page.
-#[derive(Clone, Copy, Debug, PartialEq, Eq)]
-pub struct SectionForm {
-    pub moves: u16,
-    pub samples: u32,
-}
-
-/// Any other amount as it stands on a page, its samples below 2^44.
-#[derive(Clone, Copy, Debug, Default, PartialEq, Eq)]
-pub struct LabelForm {
-    pub moves: u32,
-    pub samples: u64,
-}
-
-/// A kind of cost: its amounts, what is computed of them, and their form on a page.
+/// A kind of cost: its amounts, and what is computed of them. A search asks for no more than this.
 pub trait Cost {
     /// An amount, also below zero.
     type Label: Copy;
@@ -35,7 +15,7 @@ pub trait Cost {
 
     ghost ZERO: { Self.Label };
 
-    /// The byte of this kind on a page.
+    /// The byte of this kind.
     const KIND: u8;
 
     ghost KIND: { ℕ };
@@ -43,17 +23,13 @@ pub trait Cost {
     /// Zero, sum, difference, order and size, without limit.
     ghost ops: { Ops Self.Label };
 
-    /// A section's amount as a label, its form, and the amount that has a given form.
+    /// A section's amount as a label.
     ghost worth: { Self.Section → Self.Label };
 
-    ghost parts: { Self.Section → SectionForm };
+    /// Which amounts a section may have, and which an estimate may be; a law below says how small these are.
+    ghost section_range: { Self.Section → Type 0 };
 
-    ghost made: { SectionForm → Self.Section };
-
-    /// A label's form, and the label that has a given form.
-    ghost shown: { Self.Label → Option LabelForm };
-
-    ghost told: { LabelForm → Option Self.Label };
+    ghost estimate_range: { Self.Label → Type 0 };
 
     fn size(a: Self::Label) -> u64
         ensures { result ≡ ops.size a };
@@ -73,37 +49,9 @@ pub trait Cost {
         ensures exact { result ≡ worth s }
         ensures fit { SectionFit ops result };
 
-    fn parts(s: Self::Section) -> SectionForm
-        ensures { result ≡ parts s };
-
-    /// The amount of so many moves and samples; a kind that counts no moves leaves them out.
-    fn made(form: SectionForm) -> Self::Section
-        ensures { result ≡ made form };
-
-    fn shown(a: Self::Label) -> Option<LabelForm>
-        ensures { result ≡ shown a };
-
-    fn told(form: LabelForm) -> Option<Self::Label>
-        ensures { result ≡ told form };
-
-    /// The amount that a page gives a section: absent where the kind has none of this form.
-    fn told_section(form: SectionForm) -> Option<Self::Section>
-        ensures { result ≡ told_section parts made form }
-    {
-        let section = Self::made(form);
-        (Self::parts(section) == form).then_some(section)
-    }
-
     ghost zero: { ZERO ≡ ops.zero };
 
     ghost lawful: { Laws ops };
 
-    ghost sections: { SectionLaws ops worth parts made };
-
-    ghost labels: { LabelLaws ops shown told };
-
-    /// Which forms there are, by the kind's byte.
-    ghost kinds: { KindLaws KIND parts made told };
-
-    ghost totals: { TotalsOnPage ops worth parts shown };
+    ghost ranges: { RangeLaws ops worth section_range estimate_range };
 }

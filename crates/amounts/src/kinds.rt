@@ -1,14 +1,16 @@
 //! The two kinds of cost: samples alone, and valve moves before samples.
 ghost use Rattle.std.specs.Prelude.{◌≡◌, pos, refl};
 ghost use Rattle.std.proofs.Math.IntN.{+ℤ_comm, +ℤ_assoc, +ℤ-neg_ℤ_cancel, -ℤ-+ℤ_cancel};
-ghost use Rattle.amounts.specs.Kinds.{samples, samples_parts, samples_made, samples_shown, samples_told, moves, label, moves_worth, moves_shown, moves_told};
+ghost use Rattle.amounts.specs.Kinds.{samples, samples_forms, samples_section, samples_estimate, moves, label, moves_worth, moves_forms, moves_estimate};
 ghost use Rattle.std.proofs.Common.{inl, inr, ⊎_elim, arith, rules};
 ghost use Rattle.std.proofs.lemmas.Int.{ints};
 ghost use Rattle.std.proofs.lemmas.Bool.{cases_Bool};
+ghost use Rattle.amounts.specs.Forms.{SectionRange};
 ghost use Rattle.amounts.specs.Totals.{totals_samples, totals_moves};
-ghost use Rattle.amounts.specs.Labels.{same};
+ghost use Rattle.amounts.specs.Labels.{same, samples_in_range, samples_on_page, moves_in_range, moves_on_page};
 
-use crate::cost::{Cost, LabelForm, SectionForm};
+use crate::cost::Cost;
+use crate::forms::{LabelForm, PageCost, SectionForm};
 use crate::limits::{SAMPLES, exact_difference, exact_sum, fit, in_field};
 
 /// Kind 1: a signed number of samples.
@@ -31,13 +33,9 @@ impl Cost for Samples {
 
     ghost worth = { pos };
 
-    ghost parts = { samples_parts };
+    ghost section_range = { samples_section };
 
-    ghost made = { samples_made };
-
-    ghost shown = { samples_shown };
-
-    ghost told = { samples_told };
+    ghost estimate_range = { samples_estimate };
 
     ghost zero = { refl };
 
@@ -58,13 +56,7 @@ impl Cost for Samples {
       size_minus = λ a b. Prim.grind (arith, ints);
     } };
 
-    ghost sections = { Prim.search rules };
-
-    ghost labels = { Prim.search rules };
-
-    ghost kinds = { Prim.search rules };
-
-    ghost totals = { totals_samples };
+    ghost ranges = { Prim.search rules };
 
     fn size(a: i64) -> u64 {
         a.unsigned_abs()
@@ -95,6 +87,26 @@ impl Cost for Samples {
     fn worth(s: u32) -> i64 {
         i64::from(s)
     }
+}
+
+impl PageCost for Samples {
+    ghost forms = { samples_forms };
+
+    ghost sections = { Prim.search rules };
+
+    ghost labels = { record {
+      range = Prim.search rules;
+      again = Prim.search rules;
+      back = Prim.search rules;
+      at_least_zero = Prim.search rules;
+      in_range = samples_in_range;
+      on_page = samples_on_page;
+      zero_shown = refl;
+    } };
+
+    ghost kinds = { Prim.search rules };
+
+    ghost totals = { totals_samples };
 
     fn parts(s: u32) -> SectionForm {
         SectionForm {
@@ -152,13 +164,9 @@ impl Cost for Moves {
 
     ghost worth = { moves_worth };
 
-    ghost parts = { λ s. s };
+    ghost section_range = { SectionRange };
 
-    ghost made = { λ f. f };
-
-    ghost shown = { moves_shown };
-
-    ghost told = { moves_told };
+    ghost estimate_range = { moves_estimate };
 
     ghost zero = { refl };
 
@@ -179,13 +187,7 @@ impl Cost for Moves {
       size_minus = λ a b. Prim.grind (arith, ints);
     } };
 
-    ghost sections = { Prim.search rules };
-
-    ghost labels = { Prim.search rules };
-
-    ghost kinds = { Prim.search rules };
-
-    ghost totals = { totals_moves };
+    ghost ranges = { Prim.search rules };
 
     fn size(a: MovesLabel) -> u64 {
         a.moves.unsigned_abs().max(a.samples.unsigned_abs())
@@ -221,6 +223,26 @@ impl Cost for Moves {
             samples: i64::from(s.samples),
         }
     }
+}
+
+impl PageCost for Moves {
+    ghost forms = { moves_forms };
+
+    ghost sections = { Prim.search rules };
+
+    ghost labels = { record {
+      range = Prim.search rules;
+      again = Prim.search rules;
+      back = Prim.search rules;
+      at_least_zero = Prim.search rules;
+      in_range = moves_in_range;
+      on_page = moves_on_page;
+      zero_shown = refl;
+    } };
+
+    ghost kinds = { Prim.search rules };
+
+    ghost totals = { totals_moves };
 
     fn parts(s: SectionForm) -> SectionForm {
         s

@@ -2,6 +2,7 @@
 #![tactic(auto)]
 
 pub mod cost;
+pub mod forms;
 pub mod kinds;
 pub mod limits;
 pub mod sampling;

@@ -1,6 +1,9 @@
 //! How many samples a length of pipe takes.
 ghost use Rattle.std.specs.Prelude.{◌≡◌, IfOk};
-ghost use Rattle.amounts.specs.Sampling.{length_fits, rate_fits, samples_of, Covers};
+ghost use Rattle.std.specs.Result.{result_err};
+ghost use Rattle.faults.specs.Reasons.{FirstReason};
+ghost use Rattle.faults.specs.declared.Layer.TheVariants as layer;
+ghost use Rattle.amounts.specs.Sampling.{length_fits, rate_fits, samples_of, Covers, sampling_reasons};
 
 use faults::{Fault, in_range};
 
@@ -25,6 +28,7 @@ pub fn rate_fits(rate: u64) -> bool
 pub fn samples_of(length: u64, rate: u64) -> Result<u32, Fault>
     ensures exact { result ≡ samples_of length rate }
     ensures covers { IfOk result (Covers length rate) }
+    ensures reasons { FirstReason layer.Network (sampling_reasons length rate) (result_err result) }
 {
     in_range(0, length_fits(length))?;
     in_range(1, rate_fits(rate))?;

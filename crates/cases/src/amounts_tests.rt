@@ -1,5 +1,6 @@
 //! Amounts at their limits, samples of lengths, and what a fault says.
-use amounts::cost::{Cost, LabelForm, SectionForm};
+use amounts::cost::Cost;
+use amounts::forms::{LabelForm, PageCost, SectionForm};
 use amounts::kinds::{Moves, MovesLabel, Samples};
 use amounts::sampling::samples_of;
 use faults::{Fault, Layer, Refusal, Side, out_of_range};

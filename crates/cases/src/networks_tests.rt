@@ -1,5 +1,5 @@
 //! The twin line of 3 stations a pipe, spacing 2, 1,000, 500 and 125 mm at 256, and layers over it.
-use amounts::cost::Cost;
+use amounts::forms::PageCost;
 use amounts::kinds::{Moves, Samples};
 use faults::{Fault, Layer, Refusal, Side, out_of_range};
 use networks::blank::Blank;
@@ -29,7 +29,7 @@ fn no_such_section(number: usize) -> Fault {
 }
 
 /// From, to, moves and samples of an open section.
-fn open<C: Cost, N: Network<C>>(net: &N, number: usize) -> Option<(usize, usize, u16, u32)> {
+fn open<C: PageCost, N: Network<C>>(net: &N, number: usize) -> Option<(usize, usize, u16, u32)> {
     let section = net.section(number)?;
     let form = C::parts(section.amount);
     if section.shut {

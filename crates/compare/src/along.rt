@@ -1,10 +1,10 @@
 //! A listed route, step by step along the plan.
 use crate::plan::{Amount, Plan};
-use amounts::cost::{Cost, LabelForm};
+use amounts::forms::{LabelForm, PageCost};
 use contents::answer::Step;
 
 /// What a label shows, in plain numbers; absent where it stands on no page.
-pub fn plain<C: Cost>(label: C::Label) -> Option<Amount> {
+pub fn plain<C: PageCost>(label: C::Label) -> Option<Amount> {
     let LabelForm { moves, samples } = C::shown(label)?;
     Some(Amount {
         moves: u64::from(moves),
@@ -14,7 +14,7 @@ pub fn plain<C: Cost>(label: C::Label) -> Option<Amount> {
 
 /// What the steps cost, if they lead from the launcher to the trap through open sections, each with its section's ends
 /// and the cost up to its end.
-pub fn cost_along<C: Cost>(plan: &Plan, steps: &[Step<C::Label>]) -> Option<Amount> {
+pub fn cost_along<C: PageCost>(plan: &Plan, steps: &[Step<C::Label>]) -> Option<Amount> {
     let mut station = plan.launcher;
     let mut cost = Amount::ZERO;
     for step in steps {

@@ -3,13 +3,13 @@ ghost use Rattle.std.specs.Prelude.{IfOk, ◌≤◌};
 
 use crate::draws::Draws;
 use crate::plan::{Amount, Pipe, Plan};
-use amounts::cost::{Cost, SectionForm};
+use amounts::forms::{PageCost, SectionForm};
 use networks::network::Network;
 use std::alloc::{AllocError, Global};
 use twinline::twin_line::Drawing;
 
 /// An amount of a section: often small or zero, so that ways are equal, and seldom as large as there can be.
-fn amount<C: Cost>(draws: &mut Draws) -> Amount {
+fn amount<C: PageCost>(draws: &mut Draws) -> Amount {
     let moves = match draws.below(8) {
         _ if C::KIND == 1 => 0,
         0 => draws.below(1 << 16),
@@ -26,7 +26,7 @@ fn amount<C: Cost>(draws: &mut Draws) -> Amount {
 }
 
 /// A section between two of so many stations, which may be one; now and then beside the section before it.
-fn pipe<C: Cost>(draws: &mut Draws, stations: usize, before: Option<&Pipe>) -> Pipe {
+fn pipe<C: PageCost>(draws: &mut Draws, stations: usize, before: Option<&Pipe>) -> Pipe {
     let (from, to) = match before {
         Some(pipe) if draws.one_in(6) => (pipe.from, pipe.to),
         _ => (draws.index(stations), draws.index(stations)),
@@ -48,7 +48,7 @@ fn count(draws: &mut Draws) -> usize
 }
 
 /// A network, with two or three sections a station on average; now and then launcher and trap are one station.
-pub fn network<C: Cost>(heap: Global, draws: &mut Draws) -> Result<Plan, AllocError>
+pub fn network<C: PageCost>(heap: Global, draws: &mut Draws) -> Result<Plan, AllocError>
     ensures { IfOk result (λ p. 1 ≤ p.stations) }
 {
     let stations = count(draws);
@@ -91,7 +91,7 @@ pub fn drawing(draws: &mut Draws) -> Drawing {
 }
 
 /// The plan of a network, section by section.
-pub fn plan_of<C: Cost, N: Network<C>>(heap: Global, net: &N) -> Result<Plan, AllocError> {
+pub fn plan_of<C: PageCost, N: Network<C>>(heap: Global, net: &N) -> Result<Plan, AllocError> {
     let mut pipes = Vec::new(heap);
     for number in 0..net.sections() {
         let Some(section) = net.section(number) else {

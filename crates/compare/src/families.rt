@@ -1,12 +1,12 @@
 //! Families of networks.
-use crate::beside::{Seen, compared};
+use crate::beside::compared;
 use crate::drawn::{drawing, network, plan_of};
 use crate::draws::Draws;
 use crate::estimates::{Estimating, estimates};
 use crate::paged::{page, view};
 use crate::plan::Plan;
 use crate::tally::Tally;
-use amounts::cost::Cost;
+use amounts::forms::PageCost;
 use amounts::kinds::{Moves, Samples};
 use networks::blank::Blank;
 use networks::network::Network;
@@ -23,6 +23,15 @@ const NETWORKS: usize = 60;
 pub enum Kind {
     Samples,
     Moves,
+}
+
+impl Kind {
+    pub fn word(self) -> &'static str {
+        match self {
+            Kind::Samples => "samples",
+            Kind::Moves => "moves",
+        }
+    }
 }
 
 /// What its networks are.
@@ -46,10 +55,7 @@ impl fmt::Display for Family {
             Shape::TwinLine => "twin lines",
             Shape::Page => "pages",
         };
-        let kind = match self.kind {
-            Kind::Samples => "samples",
-            Kind::Moves => "moves",
-        };
+        let kind = self.kind.word();
         let layer = if self.shut_in { ", shut in" } else { "" };
         write!(f, "{shape} in {kind}{layer}")
     }
@@ -64,23 +70,28 @@ struct Case {
 }
 
 /// Goes by the estimates of a page, or by blank ones.
-fn with_estimates<C: Cost, N: Network<C> + Drop>(
+fn with_estimates<C: PageCost, N: Network<C> + Drop>(
     heap: Global,
     net: N,
     page: PageView<'_, C>,
     case: &Case,
     draws: &mut Draws,
-) -> Result<Seen, AllocError> {
+    tally: &mut Tally,
+) -> Result<(), AllocError> {
     match (case.estimating, Blank::new(case.plan.stations)) {
         (Estimating::Blank, Ok(blank)) => compared::<C, N, Blank>(
-            heap, net, blank, &case.plan, draws,
+            heap, net, blank, &case.plan, draws, tally,
         ),
-        _ => compared::<C, N, PageView<'_, C>>(heap, net, page, &case.plan, draws),
+        _ => compared::<C, N, PageView<'_, C>>(heap, net, page, &case.plan, draws, tally),
     }
 }
 
 /// Shuts some sections, of the plan too.
-fn shut_some<C: Cost, N: Network<C>>(layer: &mut ShutIn<N>, plan: &mut Plan, draws: &mut Draws) {
+fn shut_some<C: PageCost, N: Network<C>>(
+    layer: &mut ShutIn<N>,
+    plan: &mut Plan,
+    draws: &mut Draws,
+) {
     for _ in 0..draws.below(9) {
         let number = draws.index(plan.pipes.len());
         let shut = layer.shut::<C>(number);
@@ -90,31 +101,38 @@ fn shut_some<C: Cost, N: Network<C>>(layer: &mut ShutIn<N>, plan: &mut Plan, dra
     }
 }
 
-fn with_layer<C: Cost, N: Network<C> + Drop>(
+fn with_layer<C: PageCost, N: Network<C> + Drop>(
     heap: Global,
     net: N,
     page: PageView<'_, C>,
     mut case: Case,
     draws: &mut Draws,
-) -> Result<Seen, AllocError> {
+    tally: &mut Tally,
+) -> Result<(), AllocError> {
     if !case.shut_in {
-        return with_estimates::<C, N>(heap, net, page, &case, draws);
+        return with_estimates::<C, N>(heap, net, page, &case, draws, tally);
     }
     let mut layer = ShutIn::new(net);
     shut_some::<C, N>(&mut layer, &mut case.plan, draws);
-    with_estimates::<C, ShutIn<N>>(heap, layer, page, &case, draws)
+    with_estimates::<C, ShutIn<N>>(heap, layer, page, &case, draws, tally)
 }
 
 /// The page of a case, with its estimates.
-fn page_of<C: Cost>(heap: Global, case: &Case) -> Result<Vec<u8>, AllocError> {
+fn page_of<C: PageCost>(heap: Global, case: &Case) -> Result<Vec<u8>, AllocError> {
     let pairs = estimates(heap, &case.plan, case.estimating)?;
     page::<C>(heap, &case.plan, &pairs)
 }
 
 /// Compares one twin line.
-fn twin_line<C: Cost>(heap: Global, shut_in: bool, draws: &mut Draws) -> Result<Seen, AllocError> {
+fn twin_line<C: PageCost>(
+    heap: Global,
+    shut_in: bool,
+    draws: &mut Draws,
+    tally: &mut Tally,
+) -> Result<(), AllocError> {
     let Ok(line) = TwinLine::new(drawing(draws)) else {
-        return Ok(Seen::NOTHING);
+        tally.count_unmade();
+        return Ok(());
     };
     let case = Case {
         plan: plan_of::<C, TwinLine>(heap, &line)?,
@@ -123,17 +141,19 @@ fn twin_line<C: Cost>(heap: Global, shut_in: bool, draws: &mut Draws) -> Result<
     };
     let page = page_of::<C>(heap, &case)?;
     let Ok(view) = view::<C>(&page) else {
-        return Ok(Seen::NOTHING);
+        tally.count_unmade();
+        return Ok(());
     };
-    with_layer::<C, TwinLine>(heap, line, view, case, draws)
+    with_layer::<C, TwinLine>(heap, line, view, case, draws, tally)
 }
 
 /// Compares one network that a page holds.
-fn page_network<C: Cost>(
+fn page_network<C: PageCost>(
     heap: Global,
     shut_in: bool,
     draws: &mut Draws,
-) -> Result<Seen, AllocError> {
+    tally: &mut Tally,
+) -> Result<(), AllocError> {
     let case = Case {
         plan: network::<C>(heap, draws)?,
         estimating: Estimating::drawn(draws),
@@ -141,20 +161,20 @@ fn page_network<C: Cost>(
     };
     let page = page_of::<C>(heap, &case)?;
     let Ok(view) = view::<C>(&page) else {
-        return Ok(Seen::NOTHING);
+        tally.count_unmade();
+        return Ok(());
     };
-    with_layer::<C, PageView<'_, C>>(heap, view, view, case, draws)
+    with_layer::<C, PageView<'_, C>>(heap, view, view, case, draws, tally)
 }
 
 impl Family {
-    fn counted<C: Cost>(self, heap: Global, draws: &mut Draws) -> Result<Tally, AllocError> {
+    fn counted<C: PageCost>(self, heap: Global, draws: &mut Draws) -> Result<Tally, AllocError> {
         let mut tally = Tally::default();
         for _ in 0..NETWORKS {
-            let seen = match self.shape {
-                Shape::TwinLine => twin_line::<C>(heap, self.shut_in, draws)?,
-                Shape::Page => page_network::<C>(heap, self.shut_in, draws)?,
-            };
-            tally.count(seen);
+            match self.shape {
+                Shape::TwinLine => twin_line::<C>(heap, self.shut_in, draws, &mut tally)?,
+                Shape::Page => page_network::<C>(heap, self.shut_in, draws, &mut tally)?,
+            }
         }
         Ok(tally)
     }

@@ -1,6 +1,6 @@
 //! Plans and estimates as pages.
 use crate::plan::{Amount, Plan};
-use amounts::cost::{Cost, LabelForm, SectionForm};
+use amounts::forms::{LabelForm, PageCost, SectionForm};
 use faults::Fault;
 use networks::estimates::Pair;
 use pages::read::{blank, read};
@@ -30,7 +30,7 @@ pub fn label_form(amount: Amount) -> LabelForm {
 }
 
 /// The page of a network and its estimates.
-pub fn page<C: Cost>(
+pub fn page<C: PageCost>(
     heap: Global,
     plan: &Plan,
     estimates: &[Pair<Amount>],
@@ -65,7 +65,7 @@ pub fn page<C: Cost>(
 }
 
 /// A view of a page.
-pub fn view<C: Cost>(page: &[u8]) -> Result<PageView<'_, C>, Fault> {
+pub fn view<C: PageCost>(page: &[u8]) -> Result<PageView<'_, C>, Fault> {
     let mut view = blank();
     read(page, &mut view)?;
     Ok(view)

@@ -1,5 +1,7 @@
 //! What is counted of networks.
-use crate::beside::Seen;
+use crate::beside::Known;
+use crate::told::Told;
+use amounts::forms::PageCost;
 use std::fmt;
 
 /// How many networks there are, how many of them agree, and how many have a route.
@@ -11,11 +13,22 @@ pub struct Tally {
 }
 
 impl Tally {
-    /// Counts one network more.
-    pub fn count(&mut self, seen: Seen) {
+    /// Counts one network more, by what is told of it; where nothing is told, it does not agree.
+    pub fn count<C: PageCost>(&mut self, known: Known<'_>, told: Option<&Told<C>>) {
+        let agrees = match told {
+            Some(told) => known.agrees::<C>(told),
+            None => false,
+        };
         self.networks = self.networks.saturating_add(1);
-        self.agree = self.agree.saturating_add(usize::from(seen.agrees));
-        self.routes = self.routes.saturating_add(usize::from(seen.has_route));
+        self.agree = self.agree.saturating_add(usize::from(agrees));
+        self.routes = self
+            .routes
+            .saturating_add(usize::from(known.least.is_some()));
+    }
+
+    /// Counts one network more that could not even be made.
+    pub fn count_unmade(&mut self) {
+        self.networks = self.networks.saturating_add(1);
     }
 
     /// Counts another tally's networks too.

@@ -13,10 +13,10 @@ use Rattle.records.specs.Due.{due_record, due_run}
 use Rattle.records.specs.Layout.{header_shape, section_shape, estimate_shape, answer_shape, step_shape}
 use Rattle.records.proofs.Coding.{bytes_drop}
 use Rattle.records.proofs.Passing.{both, Stands, due_stands, RunStands, run_stands, run_fits, length-decoded_run}
-use Rattle.amounts.specs.Forms.{SectionRange, LabelLaws, OnPage, label_form}
+use Rattle.amounts.specs.Forms.{Forms, SectionRange, LabelLaws, OnPage, label_form}
 use Rattle.amounts.specs.declared.cost.Cost as cost
-use Rattle.amounts.specs.declared.cost.SectionForm.{SectionForm}
-use Rattle.amounts.specs.declared.cost.LabelForm.{LabelForm}
+use Rattle.amounts.specs.declared.forms.SectionForm.{SectionForm}
+use Rattle.amounts.specs.declared.forms.LabelForm.{LabelForm}
 use Rattle.networks.specs.Nets.{SectionInRange, InRange}
 use Rattle.networks.specs.Given.{PairInRange, GivenInRange}
 use Rattle.records.specs.declared.limits.Limits.{Limits}
@@ -154,8 +154,8 @@ pub each_meant : {R M : Type 0} (shape : Shape R) (limits : Limits) (from : R �
 each_meant shape limits from V [] turns good fit = tt
 each_meant shape limits from V (r ∷ rs) turns good fit = (turns r good.0 fit.0, each_meant shape limits from V rs turns good.1 fit.1)
 
-module _ {C L S : Type 0} (c : cost.Ghosts C L S) (kind : ℕ) (bs : List ℕ) (all : Bytes bs) (a : Accepted kind bs) where
-  section_range : (kept : (f : SectionForm) → SectionRange f → SectionRange (c.parts (c.made f))) (limits : Limits) (r : SectionRecord) → section_shape.good limits r ≡ true → Fits section_shape.widths (section_shape.fields r) → SectionInRange c.parts limits.stations (section_from c r)
+module _ {C L S : Type 0} (c : cost.Ghosts C L S) (forms : Forms L S) (kind : ℕ) (bs : List ℕ) (all : Bytes bs) (a : Accepted kind bs) where
+  section_range : (kept : (f : SectionForm) → SectionRange f → c.section_range (forms.made f)) (limits : Limits) (r : SectionRecord) → section_shape.good limits r ≡ true → Fits section_shape.widths (section_shape.fields r) → SectionInRange c.section_range limits.stations (section_from c forms r)
   section_range kept limits r good fit =
       let p = and_parts (leb r.state 1) _ good in
       let q = and_parts (ltb r.from limits.stations) _ p.1 in
@@ -166,7 +166,7 @@ module _ {C L S : Type 0} (c : cost.Ghosts C L S) (kind : ℕ) (bs : List ℕ) (
         amount = kept r.amount (record { moves = fit.1.1.1.0; samples = fit.1.1.1.1.0 });
       }
 
-  pub net_range : ((f : SectionForm) → SectionRange f → SectionRange (c.parts (c.made f))) → InRange c.parts (net_of c bs)
+  pub net_range : ((f : SectionForm) → SectionRange f → c.section_range (forms.made f)) → InRange c.section_range (net_of c forms bs)
   net_range kept =
       let h = header_of bs in
       let limits = limits_of kind h in
@@ -182,27 +182,27 @@ module _ {C L S : Type 0} (c : cost.Ghosts C L S) (kind : ℕ) (bs : List ℕ) (
         few = leb-true h.stations 4096 r.0;
         launcher = ltb-true h.launcher h.stations t.0;
         trap = ltb-true h.trap h.stations t.1;
-        short = omega (arith, leb-true h.sections 16384 s.0, length-map run (section_from c), length-decoded_run section_shape h.sections (section_bytes bs));
-        each = each_meant section_shape limits (section_from c) (SectionInRange c.parts h.stations) run (section_range kept limits) a.sections.good fit;
+        short = omega (arith, leb-true h.sections 16384 s.0, length-map run (section_from c forms), length-decoded_run section_shape h.sections (section_bytes bs));
+        each = each_meant section_shape limits (section_from c forms) (SectionInRange c.section_range h.stations) run (section_range kept limits) a.sections.good fit;
       }
 
-  module _ (laws : LabelLaws c.ops c.shown c.told) where
-    label_told : (o : Option L) (f : LabelForm) → c.told f ≡ o → f.moves < 2 ^ 32 → f.samples < 2 ^ 44 → OnPage c.shown (unwrap_or o c.ops.zero)
+  module _ (laws : LabelLaws c.ops forms c.estimate_range) where
+    label_told : (o : Option L) (f : LabelForm) → forms.told f ≡ o → f.moves < 2 ^ 32 → f.samples < 2 ^ 44 → OnPage forms (unwrap_or o c.ops.zero)
     label_told None f e h k = (label_form 0 0, laws.zero_shown)
     label_told (Some x) f e h k = (f, laws.back x f (record { moves = h; samples = k }) e)
 
-    label_range : (k : ℕ) (f : LabelForm) → label_fits k f ≡ true → f.moves < 2 ^ 32 → OnPage c.shown (label_from c f)
-    label_range k f e h = label_told (c.told f) f refl h (ltb-true f.samples (2 ^ 44) (and_parts (moves_fit k f.moves) (ltb f.samples (2 ^ 44)) e).1)
+    label_range : (k : ℕ) (f : LabelForm) → label_fits k f ≡ true → f.moves < 2 ^ 32 → OnPage forms (label_from c forms f)
+    label_range k f e h = label_told (forms.told f) f refl h (ltb-true f.samples (2 ^ 44) (and_parts (moves_fit k f.moves) (ltb f.samples (2 ^ 44)) e).1)
 
-    pair_range : (limits : Limits) (r : EstimateRecord) → estimate_shape.good limits r ≡ true → Fits estimate_shape.widths (estimate_shape.fields r) → PairInRange c.shown (pair_from c r)
+    pair_range : (limits : Limits) (r : EstimateRecord) → estimate_shape.good limits r ≡ true → Fits estimate_shape.widths (estimate_shape.fields r) → PairInRange c.estimate_range (pair_from c forms r)
     pair_range limits r good fit =
         let p = and_parts (label_fits limits.kind r.forward) (label_fits limits.kind r.backward) good in
-        record { forward = label_range limits.kind _ p.0 fit.0; backward = label_range limits.kind _ p.1 fit.1.1.0 }
+        record { forward = laws.in_range _ (label_range limits.kind _ p.0 fit.0); backward = laws.in_range _ (label_range limits.kind _ p.1 fit.1.1.0) }
 
-    pub pairs_range : GivenInRange c.shown (pairs_of c bs)
+    pub pairs_range : GivenInRange c.estimate_range (pairs_of c forms bs)
     pairs_range =
         let h = header_of bs in
         let limits = limits_of kind h in
         let run = decoded_run estimate_shape h.stations (estimate_bytes bs) in
         let fit = run_fits estimate_shape estimate_laws h.stations (estimate_bytes bs) (estimate_bytes_all bs all) in
-        each_meant estimate_shape limits (pair_from c) (PairInRange c.shown) run (pair_range limits) a.estimates.good fit
+        each_meant estimate_shape limits (pair_from c forms) (PairInRange c.estimate_range) run (pair_range limits) a.estimates.good fit

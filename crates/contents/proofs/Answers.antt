@@ -4,6 +4,7 @@ use Rattle.std.specs.List.{slice_get}
 use Rattle.std.proofs.lemmas.List.{length-map}
 use Rattle.std.proofs.lemmas.Option.{cond_some}
 use Rattle.amounts.specs.declared.cost.Cost as cost
+use Rattle.amounts.specs.Forms.{Forms}
 use Rattle.std.specs.Option.{option_map}
 use Rattle.records.specs.declared.kinds.AnswerRecord.{AnswerRecord}
 use Rattle.records.specs.declared.kinds.StepRecord.{StepRecord}
@@ -33,15 +34,15 @@ answer_is bs a e = sym (cond_some (has_answer (answer_bytes bs)) (decoded answer
 pub steps_read : (bs : List ℕ) (at n count k : ℕ) (r : Option StepRecord) → r ≡ slice_get (decoded_run step_shape n (drop (at + 20) bs)) k → at ≡ 10 + 12 * (header_of bs).sections + 21 * (header_of bs).stations → n ≡ count → r ≡ slice_get (decoded_run step_shape count (step_bytes (answer_bytes bs))) k
 steps_read bs at n count k r e p q = rw (e, q, ← answer_place bs (drop at bs) at refl p) (simp drop-drop)
 
-module _ {C L S : Type 0} (c : cost.Ghosts C L S) (bs : List ℕ) where
+module _ {C L S : Type 0} (c : cost.Ghosts C L S) (forms : Forms L S) (bs : List ℕ) where
   -- what an answer's record and its steps mean
   abbrev pub meaning : AnswerRecord → Meant L
-  meaning a = meant_by c (net_of c bs).sections a (decoded_run step_shape a.steps (step_bytes (answer_bytes bs)))
+  meaning a = meant_by c forms (net_of c forms bs).sections a (decoded_run step_shape a.steps (step_bytes (answer_bytes bs)))
 
-  pub answer_some : (a : AnswerRecord) → Some a ≡ record_in bs → Some (meaning a) ≡ answer_of c bs
+  pub answer_some : (a : AnswerRecord) → Some a ≡ record_in bs → Some (meaning a) ≡ answer_of c forms bs
   answer_some a e = rw (answer_told bs a e, answer_is bs a e)
 
-  pub answer_none : None ≡ record_in bs → None ≡ answer_of c bs
+  pub answer_none : None ≡ record_in bs → None ≡ answer_of c forms bs
   answer_none e = rw (none_told (has_answer (answer_bytes bs)) (decoded answer_shape (answer_bytes bs)) e)
 
   pub meaning_steps : (a : AnswerRecord) → length (meaning a).steps ≡ a.steps

@@ -1,12 +1,15 @@
 pub mod Accepting
 pub mod Alone
 pub mod Answers
+pub mod Blank
 pub mod Checking
+pub mod Firsts
 pub mod Forming
 pub mod Holding
 pub mod Mapped
 pub mod Overlays
 pub mod Places
+pub mod Refusing
 pub mod Retold
 pub mod Returning
 pub mod Routing

@@ -5,8 +5,8 @@ use Rattle.std.proofs.lemmas.Bool.{false≢true}
 use Rattle.std.proofs.lemmas.List.Elements.{All-from_recursion}
 use Rattle.std.proofs.lemmas.Option.{cond_some, get_or_from_slice_get, slice_get_within}
 use Rattle.amounts.specs.declared.cost.Cost as cost
-use Rattle.amounts.specs.Amount.{Laws}
-use Rattle.amounts.specs.Forms.{SectionLaws}
+use Rattle.amounts.specs.Amount.{Laws, RangeLaws}
+use Rattle.amounts.specs.Forms.{Forms}
 use Rattle.networks.specs.declared.section.Section.{Section}
 use Rattle.networks.specs.Nets.{Net, InRange, SectionInRange}
 use Rattle.networks.specs.Routes.{cost_of}
@@ -23,12 +23,12 @@ use Rattle.contents.specs.Retracing.{sections_of, walked, walks, retraced, Retra
 use Rattle.contents.proofs.Answers.{meaning, meaning_steps}
 use Rattle.contents.proofs.Routing.{Ends, walks_right, right_walks}
 
-module _ {C L S : Type 0} (c : cost.Ghosts C L S) (laws : Laws c.ops) (fit : SectionLaws c.ops c.worth c.parts c.made) (net : Net S) (range : InRange c.parts net) where
+module _ {C L S : Type 0} (c : cost.Ghosts C L S) (laws : Laws c.ops) (fit : RangeLaws c.ops c.worth c.section_range c.estimate_range) (net : Net S) (range : InRange c.section_range net) where
   pub small : (k : ℕ) (x : Section S) → slice_get net.sections k ≡ Some x → c.ops.size (c.worth x.amount) < 2 ^ 32
   small k x e =
-      let In : Section S → Type 0 = SectionInRange c.parts net.stations in
+      let In : Section S → Type 0 = SectionInRange c.section_range net.stations in
       let here = All-from_recursion In net.sections range.each k x (slice_get_within net.sections k x e) in
-      (fit.fit x.amount (subst In (get_or_from_slice_get net.sections k x x e) here).amount).small
+      (fit.section x.amount (subst In (get_or_from_slice_get net.sections k x x e) here).amount).small
 
   from_zero : (a : L) → c.ops.plus c.ops.zero a ≡ a
   from_zero a = laws.comm c.ops.zero a ∙ laws.unit a
@@ -62,23 +62,23 @@ module _ {C L S : Type 0} (c : cost.Ghosts C L S) (laws : Laws c.ops) (fit : Sec
   retold (Some m) ends few = by_outcome m (ends m refl) few m.outcome refl
 
 -- an accepted page's steps have the ends of their sections, and are few
-module _ {C L S : Type 0} (c : cost.Ghosts C L S) (laws : Laws c.ops) (fit : SectionLaws c.ops c.worth c.parts c.made) (bs : List ℕ) (all : Bytes (answer_bytes bs)) (range : InRange c.parts (net_of c bs)) where
-  ends_told : (total : L) (ps : List StepRecord) → Ends c laws (net_of c bs) (small c laws fit (net_of c bs) range) total (map (step_from c (net_of c bs).sections) ps)
+module _ {C L S : Type 0} (c : cost.Ghosts C L S) (forms : Forms L S) (laws : Laws c.ops) (fit : RangeLaws c.ops c.worth c.section_range c.estimate_range) (bs : List ℕ) (all : Bytes (answer_bytes bs)) (range : InRange c.section_range (net_of c forms bs)) where
+  ends_told : (total : L) (ps : List StepRecord) → Ends c laws (net_of c forms bs) (small c laws fit (net_of c forms bs) range) total (map (step_from c forms (net_of c forms bs).sections) ps)
   ends_told total [] = tt
   ends_told total (p ∷ ps) = (λ x e. ap to_of e, ends_told total ps)
 
-  ends_in : (m : Meant L) → answer_of c bs ≡ Some m → Ends c laws (net_of c bs) (small c laws fit (net_of c bs) range) m.cost m.steps
+  ends_in : (m : Meant L) → answer_of c forms bs ≡ Some m → Ends c laws (net_of c forms bs) (small c laws fit (net_of c forms bs) range) m.cost m.steps
   ends_in m e =
       let a = decoded answer_shape (answer_bytes bs) in
-      let same = (cond_some (has_answer (answer_bytes bs)) (meaning c bs a) m e).1 in
-      rw (sym same) (ends_told (meaning c bs a).cost (decoded_run step_shape a.steps (step_bytes (answer_bytes bs))))
+      let same = (cond_some (has_answer (answer_bytes bs)) (meaning c forms bs a) m e).1 in
+      rw (sym same) (ends_told (meaning c forms bs a).cost (decoded_run step_shape a.steps (step_bytes (answer_bytes bs))))
 
-  few_in : length (steps_in (answer_of c bs)) ≤ 2 ^ 20
+  few_in : length (steps_in (answer_of c forms bs)) ≤ 2 ^ 20
   few_in = go (has_answer (answer_bytes bs))
     where
-      go : (b : Bool) → length (steps_in (cond b (Some (meaning c bs (decoded answer_shape (answer_bytes bs)))) None)) ≤ 2 ^ 20
-      go true = omega (arith, meaning_steps c bs (decoded answer_shape (answer_bytes bs)), number_below 2 16 (answer_bytes bs) all)
+      go : (b : Bool) → length (steps_in (cond b (Some (meaning c forms bs (decoded answer_shape (answer_bytes bs)))) None)) ≤ 2 ^ 20
+      go true = omega (arith, meaning_steps c forms bs (decoded answer_shape (answer_bytes bs)), number_below 2 16 (answer_bytes bs) all)
       go false = omega arith
 
-  pub retold_page : (retraced c (net_of c bs) (answer_of c bs) ≡ true) ↔ RetracedIn c (net_of c bs) (answer_of c bs)
-  retold_page = retold c laws fit (net_of c bs) range (answer_of c bs) ends_in few_in
+  pub retold_page : (retraced c (net_of c forms bs) (answer_of c forms bs) ≡ true) ↔ RetracedIn c (net_of c forms bs) (answer_of c forms bs)
+  retold_page = retold c laws fit (net_of c forms bs) range (answer_of c forms bs) ends_in few_in

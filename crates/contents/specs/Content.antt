@@ -1,9 +1,10 @@
 -- What a page means: a network, estimates and perhaps an answer, in a kind of cost.
-use Rattle.std.specs.Prelude.{ℕ, cond, List, [], map, length, Some, None, Option, unwrap_or, ◌==◌}
+use Rattle.std.specs.Prelude.{ℕ, cond, List, [], ◌∷◌, map, length, Some, None, Option, unwrap_or, ◌==◌}
 use Rattle.std.specs.Borrow.{Bor}
 use Rattle.std.specs.List.{slice_get}
 use Rattle.amounts.specs.declared.cost.Cost as cost
-use Rattle.amounts.specs.declared.cost.LabelForm.{LabelForm}
+use Rattle.amounts.specs.Forms.{Forms}
+use Rattle.amounts.specs.declared.forms.LabelForm.{LabelForm}
 use Rattle.faults.specs.declared.Side.{Side}
 use Rattle.faults.specs.declared.Side.TheVariants.{Forward, Backward}
 use Rattle.networks.specs.declared.section.Section.{Section}
@@ -49,13 +50,13 @@ abbrev pub start_of : Side → SectionRecord → ℕ
 start_of Forward r = r.from
 start_of Backward r = r.to
 
-module _ {C L S : Type 0} (c : cost.Ghosts C L S) where
+module _ {C L S : Type 0} (c : cost.Ghosts C L S) (forms : Forms L S) where
   abbrev pub section_from : SectionRecord → Section S
-  section_from r = record { from = r.from; to = r.to; amount = c.made r.amount; shut = (r.state == 1) }
+  section_from r = record { from = r.from; to = r.to; amount = forms.made r.amount; shut = (r.state == 1) }
 
   -- a form that the kind has not reads as zero; no accepted page has one
   abbrev pub label_from : LabelForm → L
-  label_from form = unwrap_or (c.told form) c.ops.zero
+  label_from form = unwrap_or (forms.told form) c.ops.zero
 
   abbrev pub pair_from : EstimateRecord → Pair L
   pair_from e = record { forward = label_from e.forward; backward = label_from e.backward }
@@ -86,6 +87,15 @@ module _ {C L S : Type 0} (c : cost.Ghosts C L S) where
 
   abbrev pub content_of : List ℕ → Content L S
   content_of bs = record { network = net_of bs; estimates = pairs_of bs; answer = answer_of bs }
+
+-- one blank station, the launcher and the trap: no section, zero estimates, no answer
+abbrev pub blank_content : {L S : Type 0} → L → Content L S
+blank_content zero =
+    record {
+      network = record { stations = 1; launcher = 0; trap = 0; sections = [] };
+      estimates = record { forward = zero; backward = zero } ∷ [];
+      answer = None;
+    }
 
 -- what an answer that is put in means
 abbrev pub meant_of : {L : Type 0} → Answer L (Bor (List (Step L))) → Meant L

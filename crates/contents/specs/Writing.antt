@@ -5,6 +5,7 @@ use Rattle.std.specs.List.{AllByRecursion, slice_get}
 use Rattle.faults.specs.declared.Fault.{Fault}
 use Rattle.faults.specs.declared.Refusal.TheVariants.{EstimateCount, PageTooShort, FieldOutOfRange}
 use Rattle.amounts.specs.declared.cost.Cost as cost
+use Rattle.amounts.specs.Forms.{Forms}
 use Rattle.networks.specs.declared.section.Section.{Section}
 use Rattle.networks.specs.declared.estimates.Pair.{Pair}
 use Rattle.networks.specs.Nets.{Net}
@@ -30,8 +31,12 @@ answer_size (Some m) = 20 + 13 * length m.steps
 abbrev pub placed : ℕ → ℕ
 placed n = min n (2 ^ 64 - 1)
 
+-- where an answer's record stands: behind the header, the sections and the estimates
+abbrev pub answer_at : {L S : Type 0} → Content L S → ℕ
+answer_at x = 10 + 12 * length x.network.sections + 21 * length x.estimates
+
 abbrev pub needed : {L S : Type 0} → Content L S → ℕ
-needed x = placed (10 + 12 * length x.network.sections + 21 * length x.estimates + answer_size x.answer + 1)
+needed x = placed (answer_at x + answer_size x.answer + 1)
 
 -- a run is a machine number
 abbrev pub RunFits : {L : Type 0} → Option (Meant L) → Type 0
@@ -43,22 +48,22 @@ abbrev pub Short : {L : Type 0} → Option (Meant L) → Type 0
 Short None = Unit {0}
 Short (Some m) = (m.taken < 2 ^ 16) × (length m.steps < 2 ^ 16) × AllByRecursion (λ s. s.section < 2 ^ 16) m.steps
 
-module _ {C L S : Type 0} (c : cost.Ghosts C L S) where
+module _ {C L S : Type 0} (c : cost.Ghosts C L S) (forms : Forms L S) where
   -- the section is there, with these ends
   abbrev pub ends_same : Option (Section S) → Step L → Bool
   ends_same None s = false
   ends_same (Some x) s = s.from == x.from && s.to == x.to
 
   abbrev pub step_good : Net S → Step L → Bool
-  step_good net s = ends_same (slice_get net.sections s.section) s && is_some (c.shown s.so_far)
+  step_good net s = ends_same (slice_get net.sections s.section) s && is_some (forms.shown s.so_far)
 
   abbrev pub nothing_at : Outcome → L → ℕ → Bool
   nothing_at Found a n = true
-  nothing_at NoRoute a n = ((form_of c a).moves == 0 && (form_of c a).samples == 0) && n == 0
+  nothing_at NoRoute a n = ((form_of c forms a).moves == 0 && (form_of c forms a).samples == 0) && n == 0
 
   abbrev pub meant_good : Net S → Meant L → Bool
   meant_good net m =
-      is_some (c.shown m.cost) && (nat_le (length m.steps) 4095 && (nat_lt m.taken net.stations && nothing_at m.outcome m.cost (length m.steps)))
+      is_some (forms.shown m.cost) && (nat_le (length m.steps) 4095 && (nat_lt m.taken net.stations && nothing_at m.outcome m.cost (length m.steps)))
 
   -- the first step that a page cannot hold, its record counted from an offset
   abbrev pub steps_fault : Net S → ℕ → List (Step L) → Option Fault
@@ -81,14 +86,14 @@ module _ {C L S : Type 0} (c : cost.Ghosts C L S) where
   -- the first bytes are the content's, and the rest stands
   abbrev pub written_by : List ℕ → Content L S → Option Fault → Written
   written_by page x (Some f) = refused_by page f
-  written_by page x None = record { answer = Ok (length (encode c x)); page = encode c x ++ drop (length (encode c x)) page }
+  written_by page x None = record { answer = Ok (length (encode c forms x)); page = encode c forms x ++ drop (length (encode c forms x)) page }
 
   -- other stations than the network's, then too short a page, then a field that a page cannot hold
   abbrev pub write_of : List ℕ → Content L S → Written
   write_of page x =
       cond (length x.estimates == x.network.stations)
       (cond (nat_lt (length page) (needed x)) (refused_by page (page_fault (PageTooShort (needed x))))
-      (written_by page x (answer_fault x.network (10 + 12 * length x.network.sections + 21 * length x.estimates) x.answer)))
+      (written_by page x (answer_fault x.network (answer_at x) x.answer)))
       (refused_by page (page_fault (EstimateCount (length x.estimates))))
 
   -- the fault alone of what is refused, on a page of so many bytes
@@ -96,5 +101,5 @@ module _ {C L S : Type 0} (c : cost.Ghosts C L S) where
   write_fault room x =
       cond (length x.estimates == x.network.stations)
       (cond (nat_lt room (needed x)) (Some (page_fault (PageTooShort (needed x))))
-      (answer_fault x.network (10 + 12 * length x.network.sections + 21 * length x.estimates) x.answer))
+      (answer_fault x.network (answer_at x) x.answer))
       (Some (page_fault (EstimateCount (length x.estimates))))

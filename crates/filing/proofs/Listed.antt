@@ -5,8 +5,8 @@ use Rattle.std.proofs.lemmas.Bool.{eq-eqb}
 use Rattle.std.proofs.lemmas.Option.{none-some}
 use Rattle.std.specs.List.{slice_get, AllByRecursion}
 use Rattle.amounts.specs.declared.cost.Cost as cost
-use Rattle.amounts.specs.Amount.{Laws, computed, total}
-use Rattle.amounts.specs.Forms.{SectionLaws, SectionRange, OnPage, TotalsOnPage}
+use Rattle.amounts.specs.Amount.{RangeLaws, Laws, computed, total}
+use Rattle.amounts.specs.Forms.{Forms, OnPage, TotalsOnPage}
 use Rattle.networks.specs.declared.section.Section.{Section}
 use Rattle.networks.specs.Nets.{Net, InRange, SectionInRange}
 use Rattle.networks.specs.Routes.{Joins, Route, worth_in, cost_of}
@@ -66,7 +66,7 @@ module _ {C L S : Type 0} (c : cost.Ghosts C L S) (net : Net S) where
   along_there a u v (k ∷ ks) j (suc i) s e = let x = j.0 in along_there (cost_along c net a k) x.to v ks j.4 i s e
 
   -- the amounts of the first n sections
-  pub amounts : (u v : ℕ) (ks : List ℕ) → Joins net u ks v → AllByRecursion (SectionInRange c.parts net.stations) net.sections → (n : ℕ) → (ss : List S) × (AllByRecursion (λ s. SectionRange (c.parts s)) ss) × (length ss ≤ length ks) × (total c.ops c.worth ss ≡ cost_of c.ops c.worth net (take n ks))
+  pub amounts : (u v : ℕ) (ks : List ℕ) → Joins net u ks v → AllByRecursion (SectionInRange c.section_range net.stations) net.sections → (n : ℕ) → (ss : List S) × (AllByRecursion c.section_range ss) × (length ss ≤ length ks) × (total c.ops c.worth ss ≡ cost_of c.ops c.worth net (take n ks))
   amounts u v [] j range zero = ([], tt, omega arith, refl)
   amounts u v [] j range (suc n) = ([], tt, omega arith, refl)
   amounts u v (k ∷ ks) j range zero = ([], tt, omega arith, refl)
@@ -74,7 +74,7 @@ module _ {C L S : Type 0} (c : cost.Ghosts C L S) (net : Net S) where
       let x = j.0 in
       let (ss, fair, short, sum) = amounts x.to v ks j.4 range n in (
         x.amount ∷ ss,
-        ((all_at (SectionInRange c.parts net.stations) net.sections k x range j.1).amount, fair),
+        ((all_at (SectionInRange c.section_range net.stations) net.sections k x range j.1).amount, fair),
         omega arith,
         ap₂ c.ops.plus (ap (worth_in c.ops c.worth) (sym j.1)) sum,
       )
@@ -83,7 +83,7 @@ pub all_from : {X : Type 0} (P : X → Type 0) (xs : List X) → ((i : ℕ) (x :
 all_from P [] h = tt
 all_from P (x ∷ xs) h = (h 0 x refl, all_from P xs (λ i y e. h (suc i) y e))
 
-module _ {C L S : Type 0} (c : cost.Ghosts C L S) (laws : Laws c.ops) (fit : SectionLaws c.ops c.worth c.parts c.made) (totals : TotalsOnPage c.ops c.worth c.parts c.shown) (net : Net S) (range : InRange c.parts net) (ks : List ℕ) (route : Route net ks) (few : length ks < net.stations) where
+module _ {C L S : Type 0} (c : cost.Ghosts C L S) (forms : Forms L S) (laws : Laws c.ops) (fit : RangeLaws c.ops c.worth c.section_range c.estimate_range) (totals : TotalsOnPage c.ops c.worth c.section_range forms) (net : Net S) (range : InRange c.section_range net) (ks : List ℕ) (route : Route net ks) (few : length ks < net.stations) where
   abbrev steps : List (Step L)
   steps = steps_along c net c.ops.zero ks
 
@@ -94,24 +94,24 @@ module _ {C L S : Type 0} (c : cost.Ghosts C L S) (laws : Laws c.ops) (fit : Sec
       (λ m e. let same : route_filed c run taken steps ≡ m = cc in subst (λ m. Ends c laws net (small c laws fit net range) m.cost m.steps) same (along_ends c net c.ops.zero ks))
       (omega (arith, length_along c net c.ops.zero ks, range.few))).0 (along_walks c net laws c.ops.zero net.launcher ks route)
 
-  pub along_listed : Listed c net steps
+  pub along_listed : Listed c forms net steps
   along_listed =
       let r = along_retraced 0 0 in
       record {
         route = r.route;
         few = omega (arith, length_along c net c.ops.zero ks);
-        each = all_from (StepValid c net.sections) steps (λ i s e.
+        each = all_from (StepValid c forms net.sections) steps (λ i s e.
             let (x, there, from, to) = along_there c net c.ops.zero net.launcher net.trap ks route i s e in
             let (ss, fair, short, sum) = amounts c net net.launcher net.trap ks route range.each (suc i) in
             let here : s.so_far ≡ total c.ops c.worth ss = r.so_far i s e ∙ ap (λ js. cost_of c.ops c.worth net (take (suc i) js)) (along_sections c net c.ops.zero ks) ∙ sym sum in
-            record { section = x; there = there; from = from; to = to; cost = subst (OnPage c.shown) (sym here) (totals ss fair (omega (arith, range.few))) });
+            record { section = x; there = there; from = from; to = to; cost = subst (OnPage forms) (sym here) (totals ss fair (omega (arith, range.few))) });
         so_far = r.so_far;
         total = r.total;
       }
 
   -- the whole cost stands on a page
-  pub total_shown : OnPage c.shown (last_cost c.ops.zero steps)
+  pub total_shown : OnPage forms (last_cost c.ops.zero steps)
   total_shown =
       let (ss, fair, short, sum) = amounts c net net.launcher net.trap ks route range.each (length ks) in
       let here : last_cost c.ops.zero steps ≡ total c.ops c.worth ss = along_listed.total ∙ ap (cost_of c.ops c.worth net) (along_sections c net c.ops.zero ks ∙ sym (take-length ks)) ∙ sym sum in
-      subst (OnPage c.shown) (sym here) (totals ss fair (omega (arith, range.few)))
+      subst (OnPage forms) (sym here) (totals ss fair (omega (arith, range.few)))

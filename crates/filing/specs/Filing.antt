@@ -1,6 +1,7 @@
 -- What File answers, and what the lists and the page then hold.
 use Rattle.std.specs.Prelude.{ℕ, List, [], take, Some, Ok, Err, Result}
 use Rattle.amounts.specs.declared.cost.Cost as cost
+use Rattle.amounts.specs.Forms.{Forms}
 use Rattle.networks.specs.declared.network.Network as network
 use Rattle.networks.specs.declared.estimates.Estimates as estimates
 use Rattle.faults.specs.declared.Fault.{Fault}
@@ -28,7 +29,7 @@ module _ {C L S : Type 0} (c : cost.Ghosts C L S) where
   abbrev pub none_filed : ℕ → ℕ → Meant L
   none_filed run taken = record { run = run; outcome = outcome.NoRoute; cost = c.ops.zero; taken = taken; steps = [] }
 
-module _ {C N E L S : Type 0} (c : cost.Ghosts C L S) (n : network.Ghosts N C L S) (e : estimates.Ghosts E C L S) where
+module _ {C N E L S : Type 0} (c : cost.Ghosts C L S) (forms : Forms L S) (n : network.Ghosts N C L S) (e : estimates.Ghosts E C L S) where
   -- what is put on the page with an answer
   abbrev pub filed_with : N → E → Meant L → Content L S
   filed_with net given m = record { network = n.meaning net; estimates = e.meaning given; answer = Some m }
@@ -42,8 +43,8 @@ module _ {C N E L S : Type 0} (c : cost.Ghosts C L S) (n : network.Ghosts N C L 
     filed_by r (Err f) after = turned_down f
     filed_by r (Ok len) after = record { answer = Ok len; steps = r.steps; turning = r.turning; page = after }
 
-    abbrev pub written : Routed L → ℕ → Written c
-    written r count = write_of c page (filed_with found.net found.estimates (route_filed c run found.taken (take count r.steps)))
+    abbrev pub written : Routed L → ℕ → Written c forms
+    written r count = write_of c forms page (filed_with found.net found.estimates (route_filed c run found.taken (take count r.steps)))
 
     abbrev pub filing_by : Routed L → Result ℕ Fault → Filing L
     filing_by r (Err f) = turned_down f
@@ -56,5 +57,5 @@ module _ {C N E L S : Type 0} (c : cost.Ghosts C L S) (n : network.Ghosts N C L 
       filing_by found run steps turning page r r.answer
 
   -- Write alone, where there is no route
-  abbrev pub file_none_of : NoRoute C N E L S → ℕ → List ℕ → Written c
-  file_none_of none run page = write_of c page (filed_with none.net none.estimates (none_filed c run none.taken))
+  abbrev pub file_none_of : NoRoute C N E L S → ℕ → List ℕ → Written c forms
+  file_none_of none run page = write_of c forms page (filed_with none.net none.estimates (none_filed c run none.taken))

@@ -1,5 +1,5 @@
 //! File: a page with network, estimates and answer.
-ghost use Rattle.std.specs.Prelude.{◌≡◌, Some, List};
+ghost use Rattle.std.specs.Prelude.{◌≡◌, min, length, Some, List};
 ghost use Rattle.networks.specs.Nets.{InRange};
 ghost use Rattle.search.specs.Claims.{Call};
 ghost use Rattle.filing.specs.Listing.{last_cost};
@@ -10,6 +10,7 @@ ghost use Rattle.filing.specs.Claims.{FoundBy, NoneBy, FiledBy, FileStands, None
 
 use crate::route::{list, plan, promised};
 use amounts::cost::Cost;
+use amounts::forms::PageCost;
 use contents::answer::{Outcome, Step, WholeAnswer};
 use faults::{Fault, Layer, Refusal};
 use networks::estimates::Estimates;
@@ -35,7 +36,7 @@ fn check_room<C: Cost, N: Network<C>, E: Estimates<C>>(
     steps: usize,
 ) -> Result<(), Fault>
     ensures exact { result ≡ held (N.Network.meaning found.now.net).stations found.now.taken (answer_place (N.Network.meaning found.now.net) (E.Estimates.meaning found.now.estimates) room (Some steps)) }
-    ensures range { InRange C.Cost.parts (N.Network.meaning found.now.net) }
+    ensures range { InRange C.Cost.section_range (N.Network.meaning found.now.net) }
 {
     let net = found.network();
     let stations = net.stations();
@@ -46,7 +47,7 @@ fn check_room<C: Cost, N: Network<C>, E: Estimates<C>>(
     Ok(())
 }
 
-fn file_route<C: Cost, N: Network<C>, E: Estimates<C>>(
+fn file_route<C: PageCost, N: Network<C>, E: Estimates<C>>(
     found: &Found<C, N, E>,
     run: u32,
     sheet: &[Row<C>],
@@ -54,7 +55,7 @@ fn file_route<C: Cost, N: Network<C>, E: Estimates<C>>(
     turning: &mut [Step<C::Label>],
     page: &mut [u8],
 ) -> Result<usize, Fault>
-    ensures { record { answer = result; steps = steps.new; turning = turning.new; page = page.new } ≡ file_of C.Cost N.Network E.Estimates found.now run sheet.now steps.old turning.old page.old }
+    ensures { record { answer = result; steps = steps.new; turning = turning.new; page = page.new } ≡ file_of C.Cost C.forms N.Network E.Estimates found.now run sheet.now steps.old turning.old page.old }
 {
     let net = found.network();
     let meeting = found.meeting();
@@ -75,7 +76,7 @@ fn file_route<C: Cost, N: Network<C>, E: Estimates<C>>(
 
 /// Files a found route under a run number: lists it as Route does, writes network, estimates and answer over the front of
 /// the page, and answers how many bytes. Turned down, lists and page stand.
-pub fn file<C: Cost, N: Network<C>, E: Estimates<C>>(
+pub fn file<C: PageCost, N: Network<C>, E: Estimates<C>>(
     found: &Found<C, N, E>,
     run: u32,
     sheet: &[Row<C>],
@@ -84,23 +85,24 @@ pub fn file<C: Cost, N: Network<C>, E: Estimates<C>>(
     page: &mut [u8],
 ) -> Result<usize, Fault>
     // The answer, both lists and the page, on every input.
-    ensures exact { record { answer = result; steps = steps.new; turning = turning.new; page = page.new } ≡ file_of C.Cost N.Network E.Estimates found.now run sheet.now steps.old turning.old page.old }
+    ensures exact { record { answer = result; steps = steps.new; turning = turning.new; page = page.new } ≡ file_of C.Cost C.forms N.Network E.Estimates found.now run sheet.now steps.old turning.old page.old }
     // On every sheet: what was filed, Read accepts, it means what was put in, and Retrace confirms it.
-    ensures filed { FiledBy C.Cost N.Network E.Estimates found.now run result steps.new page.new }
-    // Where the search had its sheet to itself, only a short list or page is turned down, and no route costs less.
-    ensures stands { (calls : List Call) → FoundBy C.Cost N.Network E.Estimates calls found.now sheet.now → FileStands C.Cost N.Network E.Estimates found.now result page.new }
+    ensures filed { FiledBy C.Cost C.forms N.Network E.Estimates found.now run result steps.new page.new }
+    // Where the search had its sheet to itself, only a list shorter than the route or a page shorter than its bytes is
+    // turned down, and no route costs less.
+    ensures stands { (calls : List Call) → FoundBy C.Cost N.Network E.Estimates calls found.now sheet.now → FileStands C.Cost C.forms N.Network E.Estimates found.now run sheet.now (min (length steps.old) (length turning.old)) (length page.old) result page.new }
 {
     promised::<C, N, E>(found.network(), found.estimates());
     file_route::<C, N, E>(found, run, sheet, steps, turning, page)
 }
 
-fn write_none<C: Cost, N: Network<C>, E: Estimates<C>>(
+fn write_none<C: PageCost, N: Network<C>, E: Estimates<C>>(
     none: &NoRoute<C, N, E>,
     run: u32,
     page: &mut [u8],
 ) -> Result<usize, Fault>
-    ensures exact { record { answer = result; page = page.new } ≡ file_none_of C.Cost N.Network E.Estimates none.now run page.old }
-    ensures filed { NoneFiledBy C.Cost N.Network E.Estimates none.now run result page.new }
+    ensures exact { record { answer = result; page = page.new } ≡ file_none_of C.Cost C.forms N.Network E.Estimates none.now run page.old }
+    ensures filed { NoneFiledBy C.Cost C.forms N.Network E.Estimates none.now run result page.new }
 {
     let no_steps = [];
     let answer = WholeAnswer {
@@ -114,17 +116,17 @@ fn write_none<C: Cost, N: Network<C>, E: Estimates<C>>(
 }
 
 /// Files under a run number that there is no route, and answers how many bytes. Turned down, the page stands.
-pub fn file_none<C: Cost, N: Network<C>, E: Estimates<C>>(
+pub fn file_none<C: PageCost, N: Network<C>, E: Estimates<C>>(
     none: &NoRoute<C, N, E>,
     run: u32,
     page: &mut [u8],
 ) -> Result<usize, Fault>
     // The answer and the page, on every input.
-    ensures exact { record { answer = result; page = page.new } ≡ file_none_of C.Cost N.Network E.Estimates none.now run page.old }
+    ensures exact { record { answer = result; page = page.new } ≡ file_none_of C.Cost C.forms N.Network E.Estimates none.now run page.old }
     // What was filed, Read accepts, and it means what was put in.
-    ensures filed { NoneFiledBy C.Cost N.Network E.Estimates none.now run result page.new }
-    // Where the search had its sheet to itself, there is no route, and only a short page is turned down.
-    ensures stands { (calls : List Call) → NoneBy C.Cost N.Network E.Estimates calls none.now → FileNoneStands C.Cost N.Network E.Estimates none.now result }
+    ensures filed { NoneFiledBy C.Cost C.forms N.Network E.Estimates none.now run result page.new }
+    // Where the search had its sheet to itself, there is no route, and only a page shorter than its bytes is turned down.
+    ensures stands { (calls : List Call) → NoneBy C.Cost N.Network E.Estimates calls none.now → FileNoneStands C.Cost C.forms N.Network E.Estimates none.now run (length page.old) result page.new }
 {
     promised::<C, N, E>(none.network(), none.estimates());
     write_none::<C, N, E>(none, run, page)

@@ -10,6 +10,7 @@ ghost use Rattle.filing.specs.Claims.{ListedBy, FoundBy, RouteStands};
 use crate::follow::{Halves, follow_both};
 use crate::listing::{add_costs, list_followed, turn};
 use amounts::cost::Cost;
+use amounts::forms::PageCost;
 use contents::answer::Step;
 use faults::{Fault, Layer, Refusal, Side};
 use networks::estimates::Estimates;
@@ -66,8 +67,8 @@ pub(crate) fn list<C: Cost, N: Network<C>>(
 
 /// Asks network and estimates for what they promise.
 pub(crate) fn promised<C: Cost, N: Network<C>, E: Estimates<C>>(net: &N, estimates: &E)
-    ensures range { InRange C.Cost.parts (N.Network.meaning net.now) }
-    ensures given { GivenInRange C.Cost.shown (E.Estimates.meaning estimates.now) }
+    ensures range { InRange C.Cost.section_range (N.Network.meaning net.now) }
+    ensures given { GivenInRange C.Cost.estimate_range (E.Estimates.meaning estimates.now) }
 {
     net.stations();
     estimates.count();
@@ -91,7 +92,7 @@ fn list_route<C: Cost, N: Network<C>, E>(
 /// Lists the steps of a found route, each with its section, its ends and the cost up to its end, and answers how many.
 /// The turning list starts with those behind the station where the two halves meet, in the order followed from there.
 /// Turned down, both lists stand; else only the named places are written.
-pub fn route<C: Cost, N: Network<C>, E: Estimates<C>>(
+pub fn route<C: PageCost, N: Network<C>, E: Estimates<C>>(
     found: &Found<C, N, E>,
     sheet: &[Row<C>],
     steps: &mut [Step<C::Label>],
@@ -100,9 +101,9 @@ pub fn route<C: Cost, N: Network<C>, E: Estimates<C>>(
     // The answer and both lists, on every input.
     ensures exact { record { answer = result; steps = steps.new; turning = turning.new } ≡ route_of C.Cost (N.Network.meaning found.now.net) steps.old turning.old found.now.meeting sheet.now }
     // On every sheet: what is listed is a route, and every cost so far is right.
-    ensures listed { ListedBy C.Cost (N.Network.meaning found.now.net) found.now.meeting result steps.new turning.new }
-    // Where the search had its sheet to itself, only a short list is turned down, and no route costs less.
-    ensures stands { (calls : List Call) → FoundBy C.Cost N.Network E.Estimates calls found.now sheet.now → RouteStands C.Cost N.Network E.Estimates found.now result steps.new }
+    ensures listed { ListedBy C.Cost C.forms (N.Network.meaning found.now.net) found.now.meeting result steps.new turning.new }
+    // Where the search had its sheet to itself, only a list shorter than the route is turned down, and no route costs less.
+    ensures stands { (calls : List Call) → FoundBy C.Cost N.Network E.Estimates calls found.now sheet.now → RouteStands C.Cost N.Network E.Estimates found.now sheet.now (min (length steps.old) (length turning.old)) result steps.new }
 {
     promised::<C, N, E>(found.network(), found.estimates());
     list_route::<C, N, E>(found, sheet, steps, turning)

@@ -1,5 +1,6 @@
 //! Searches over pages of five stations, and the lists and pages that are handed over.
 use amounts::cost::Cost;
+use amounts::forms::PageCost;
 use amounts::kinds::Samples;
 use contents::answer::Step;
 use faults::{Fault, Layer, Refusal, Side};
@@ -23,14 +24,14 @@ pub(crate) fn changed<const LENGTH: usize>(
 }
 
 /// A view of a page.
-fn view<C: Cost>(page: &[u8]) -> Result<PageView<'_, C>, Fault> {
+fn view<C: PageCost>(page: &[u8]) -> Result<PageView<'_, C>, Fault> {
     let mut view = blank();
     read(page, &mut view)?;
     Ok(view)
 }
 
 /// A view of so many bytes at the front of a page.
-pub(crate) fn front<C: Cost>(page: &[u8], bytes: usize) -> Result<PageView<'_, C>, Fail> {
+pub(crate) fn front<C: PageCost>(page: &[u8], bytes: usize) -> Result<PageView<'_, C>, Fail> {
     let Some(front) = page.get(..bytes) else {
         return Err(Fail::new("too few bytes"));
     };
@@ -58,7 +59,7 @@ pub(crate) const IN_TURN: [Side; 4] = [
 ];
 
 /// What a search over a page's network and estimates ends in, after these steps.
-pub(crate) fn finished<'a, C: Cost>(
+pub(crate) fn finished<'a, C: PageCost>(
     page: &'a [u8],
     sides: &[Side],
     sheet: &mut [Row<C>],

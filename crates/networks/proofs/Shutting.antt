@@ -2,7 +2,6 @@
 use Rattle.std.proofs.Common.{◌≡◌, ℕ, zero, suc, ◌+◌, Bool, List, [], ◌∷◌, length, Some, refl, ap, arith}
 use Rattle.std.specs.List.{AllByRecursion, slice_get}
 use Rattle.std.specs.Option.{option_map}
-use Rattle.amounts.specs.declared.cost.SectionForm.{SectionForm}
 use Rattle.faults.specs.declared.Side.{Side}
 use Rattle.faults.specs.declared.Side.TheVariants.{Forward, Backward}
 use Rattle.networks.specs.declared.section.Section.{Section}
@@ -32,16 +31,16 @@ module _ {A : Type 0} (kept : List ℕ) where
   pub nth_shut : (i : ℕ) (ss : List (Section A)) → slice_get (shut_from kept 0 ss) i ≡ option_map (shut_if (has kept i)) (slice_get ss i)
   nth_shut i ss = nth_from 0 i i ss (omega arith)
 
-  within_shut : (parts : A → SectionForm) (stations n : ℕ) (ss : List (Section A)) → AllByRecursion (SectionInRange parts stations) ss → AllByRecursion (SectionInRange parts stations) (shut_from kept n ss)
-  within_shut parts stations n [] h = tt
-  within_shut parts stations n (s ∷ ss) h = (record { from = h.0.from; to = h.0.to; amount = h.0.amount }, within_shut parts stations (n + 1) ss h.1)
+  within_shut : (range : A → Type 0) (stations n : ℕ) (ss : List (Section A)) → AllByRecursion (SectionInRange range stations) ss → AllByRecursion (SectionInRange range stations) (shut_from kept n ss)
+  within_shut range stations n [] h = tt
+  within_shut range stations n (s ∷ ss) h = (record { from = h.0.from; to = h.0.to; amount = h.0.amount }, within_shut range stations (n + 1) ss h.1)
 
-  pub range_shut : (parts : A → SectionForm) (net : Net A) → InRange parts net → InRange parts (shut_in kept net)
-  range_shut parts net h = record {
+  pub range_shut : (range : A → Type 0) (net : Net A) → InRange range net → InRange range (shut_in kept net)
+  range_shut range net h = record {
     some = h.some;
     few = h.few;
     launcher = h.launcher;
     trap = h.trap;
     short = rw (length-shut 0 net.sections) h.short;
-    each = within_shut parts net.stations 0 net.sections h.each;
+    each = within_shut range net.stations 0 net.sections h.each;
   }

@@ -1,8 +1,6 @@
 -- What a network means, and what its questions ask of that meaning.
 use Rattle.std.specs.Prelude.{◌≡◌, ℕ, ◌+◌, ◌<◌, ◌≤◌, Bool, true, cond, List, [], ◌∷◌, length, Some, ◌==◌}
 use Rattle.std.specs.List.{AllByRecursion, slice_get}
-use Rattle.amounts.specs.Forms.{SectionRange}
-use Rattle.amounts.specs.declared.cost.SectionForm.{SectionForm}
 use Rattle.faults.specs.Faults.{opposite}
 use Rattle.faults.specs.declared.Side.{Side}
 use Rattle.faults.specs.declared.Side.TheVariants.{Forward, Backward}
@@ -17,19 +15,19 @@ pub record Net (S : Type 0) : Type 0 where
 
 -- Ranges -------------------------------------------------------------------------------------
 
--- a section among so many stations, with an amount in range; `parts` is the amount's form
-pub record SectionInRange {S : Type 0} (parts : S → SectionForm) (stations : ℕ) (s : Section S) : Type 0 where
+-- a section among so many stations, with an amount in the range of its kind
+pub record SectionInRange {S : Type 0} (range : S → Type 0) (stations : ℕ) (s : Section S) : Type 0 where
   pub from : s.from < stations
   pub to : s.to < stations
-  pub amount : SectionRange (parts s.amount)
+  pub amount : range s.amount
 
-pub record InRange {S : Type 0} (parts : S → SectionForm) (net : Net S) : Type 0 where
+pub record InRange {S : Type 0} (range : S → Type 0) (net : Net S) : Type 0 where
   pub some : 1 ≤ net.stations
   pub few : net.stations ≤ 4096
   pub launcher : net.launcher < net.stations
   pub trap : net.trap < net.stations
   pub short : length net.sections ≤ 16384
-  pub each : AllByRecursion (SectionInRange parts net.stations) net.sections
+  pub each : AllByRecursion (SectionInRange range net.stations) net.sections
 
 -- Leaving and entering -----------------------------------------------------------------------
 

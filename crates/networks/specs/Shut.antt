@@ -1,12 +1,17 @@
 -- A network with some sections shut.
-use Rattle.std.specs.Prelude.{ℕ, ◌+◌, Bool, cond, ◌||◌, List, [], ◌∷◌, ◌++◌, length, Ok, Err, Result, ◌==◌, nat_lt}
-use Rattle.std.specs.List.{list_any}
+use Rattle.std.specs.Prelude.{◌≡◌, ◌≢◌, ℕ, ◌+◌, ◌≤◌, Bool, cond, ◌||◌, ◌⊎◌, List, [], ◌∷◌, ◌++◌, length, Contains, IsOk, IsErr, Ok, Err, Result, ◌==◌, nat_lt}
+use Rattle.std.specs.List.{AllPairs, list_any}
 use Rattle.faults.specs.Faults.{network_fault}
+use Rattle.faults.specs.Reasons.{Reasons, refused_if, else_accepted}
 use Rattle.faults.specs.declared.Fault.{Fault}
 use Rattle.faults.specs.declared.Refusal.{Refusal}
 use Rattle.faults.specs.declared.Refusal.TheVariants.{ShutInFull, NoSuchSection}
 use Rattle.networks.specs.declared.section.Section.{Section}
 use Rattle.networks.specs.Nets.{Net}
+
+-- no two of the numbers are the same
+abbrev pub EachOnce : List ℕ → Type 0
+EachOnce kept = AllPairs (λ m n. m ≢ n) kept
 
 -- whether n is among the numbers
 abbrev pub has : List ℕ → ℕ → Bool
@@ -42,3 +47,25 @@ shutting net kept n =
     (cond (has kept n) (accepted kept)
     (cond (length kept == 64) (refused kept (ShutInFull 64)) (accepted (kept ++ (n ∷ [])))))
     (refused kept (NoSuchSection n))
+
+-- no section of the network has the number
+abbrev pub NoSection : {S : Type 0} → Net S → ℕ → Type 0
+NoSection net n = length net.sections ≤ n
+
+-- 64 numbers are kept, and all are others
+abbrev pub FullOfOthers : List ℕ → ℕ → Type 0
+FullOfOthers kept n = (length kept ≡ 64) × ¬ Contains kept n
+
+-- why a section is not shut
+abbrev pub shutting_reasons : {S : Type 0} → Net S → List ℕ → ℕ → Reasons
+shutting_reasons net kept n =
+    refused_if (NoSection net n) (NoSuchSection n)
+    (refused_if (FullOfOthers kept n) (ShutInFull 64)
+    else_accepted)
+
+-- Of the numbers kept before and after: accepted, n has come and nothing else, and none is gone; refused, they stay.
+pub record KeptAlso (n : ℕ) (answer : Result (Unit {0}) Fault) (before after : List ℕ) : Type 0 where
+  pub among : IsOk answer → Contains after n
+  pub stay : (k : ℕ) → Contains before k → Contains after k
+  pub nothing_else : (k : ℕ) → Contains after k → Contains before k ⊎ (k ≡ n)
+  pub refused : IsErr answer → after ≡ before

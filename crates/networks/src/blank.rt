@@ -1,6 +1,9 @@
 //! Estimates that say nothing: zero both ways.
 ghost use Rattle.std.specs.Prelude.{◌≡◌, ℕ, ◌≤◌, length};
-ghost use Rattle.networks.specs.Blanks.{blank_answer, blank_pairs};
+ghost use Rattle.std.specs.Result.{result_err};
+ghost use Rattle.faults.specs.Reasons.{FirstReason};
+ghost use Rattle.faults.specs.declared.Layer.TheVariants as layer;
+ghost use Rattle.networks.specs.Blanks.{blank_answer, blank_reasons, blank_pairs};
 ghost use Rattle.networks.specs.Given.{GivenInRange};
 
 use crate::estimates::{Estimates, Pair};
@@ -30,7 +33,8 @@ impl Model for Blank {
 impl Blank {
     /// Blank estimates for 1 to 4,096 stations.
     pub fn new(count: usize) -> Result<Blank, Fault>
-        ensures { result ≡ blank_answer count }
+        ensures exact { result ≡ blank_answer count }
+        ensures reasons { FirstReason layer.Network (blank_reasons count) (result_err result) }
     {
         in_range(0, (1..=MOST_STATIONS).contains(&count))?;
         Ok(Blank { count })
@@ -43,7 +47,7 @@ impl<C: Cost> Estimates<C> for Blank {
     /// A count is always in its range.
     fn count(&self) -> usize
         ensures count { result ≡ length (blank_pairs C.Cost.ops self.now) }
-        ensures range { GivenInRange C.Cost.shown (blank_pairs C.Cost.ops self.now) }
+        ensures range { GivenInRange C.Cost.estimate_range (blank_pairs C.Cost.ops self.now) }
         ensures within { (1 ≤ self.now) × (self.now ≤ 4096) }
     {
         self.count

@@ -20,7 +20,7 @@ pub trait Estimates<C: Cost> {
     /// For how many stations there is a pair. Every estimate is in range.
     fn count(&self) -> usize
         ensures count { result ≡ length (meaning self.now) }
-        ensures range { GivenInRange C.Cost.shown (meaning self.now) };
+        ensures range { GivenInRange C.Cost.estimate_range (meaning self.now) };
 
     /// The station's pair, absent beyond the count.
     fn pair(&self, station: usize) -> Option<Pair<C::Label>>

@@ -16,7 +16,7 @@ pub trait Network<C: Cost> {
     // Kept: a clause and no law, so that an implementation may owe the range to what it keeps true of itself.
     fn stations(&self) -> usize
         ensures count { result ≡ (meaning self.now).stations }
-        ensures range { InRange C.Cost.parts (meaning self.now) };
+        ensures range { InRange C.Cost.section_range (meaning self.now) };
 
     fn sections(&self) -> usize
         ensures { result ≡ length (meaning self.now).sections };

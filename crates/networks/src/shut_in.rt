@@ -2,7 +2,10 @@
 ghost use Rattle.std.specs.Prelude.{◌≡◌, ◌≤◌, [], length};
 ghost use Rattle.std.specs.List.{slice_get};
 ghost use Rattle.std.specs.Option.{option_map};
-ghost use Rattle.networks.specs.Shut.{has, shut_in, shut_if, shutting};
+ghost use Rattle.std.specs.Result.{result_err};
+ghost use Rattle.faults.specs.Reasons.{FirstReason};
+ghost use Rattle.faults.specs.declared.Layer.TheVariants as layer;
+ghost use Rattle.networks.specs.Shut.{EachOnce, has, shut_in, shut_if, shutting, shutting_reasons, KeptAlso};
 
 use crate::network::Network;
 use crate::section::Section;
@@ -18,6 +21,7 @@ pub const ROOM: usize = 64;
 pub struct ShutIn<N> {
     below: N,
     kept: ArrayVec<usize, ROOM>,
+    ghost once: { EachOnce kept.items },
 }
 
 impl<N> ShutIn<N> {
@@ -36,6 +40,7 @@ impl<N> ShutIn<N> {
     pub fn kept(&self) -> &[usize]
         ensures value { result.now ≡ self.now.kept.items }
         ensures few { length self.now.kept.items ≤ 64 }
+        ensures once { EachOnce self.now.kept.items }
     {
         self.kept.as_slice()
     }
@@ -46,6 +51,8 @@ impl<N> ShutIn<N> {
         N: Network<C>,
         ensures left { record { answer = result; kept = self.new.kept.items } ≡ shutting (N.Network.meaning self.old.below) self.old.kept.items number }
         ensures below { self.new.below ≡ self.old.below }
+        ensures reasons { FirstReason layer.Network (shutting_reasons (N.Network.meaning self.old.below) self.old.kept.items number) (result_err result) }
+        ensures also { KeptAlso number result self.old.kept.items self.new.kept.items }
     {
         if number >= self.below.sections() {
             return Err(Layer::Network.fault(Refusal::NoSuchSection { number }));

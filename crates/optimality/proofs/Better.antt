@@ -7,7 +7,7 @@ use Rattle.optimality.specs.declared.sheet.Mark.{Mark}
 use Rattle.optimality.specs.declared.sheet.Ceiling.{Ceiling}
 use Rattle.optimality.specs.declared.sheet.Ceiling.TheVariants.{Absent, Met}
 use Rattle.optimality.specs.Problems.{Problem, Fair}
-use Rattle.optimality.specs.Keys.{opened_mark, sum, within, lowered, improves}
+use Rattle.optimality.specs.Keys.{opened_mark, computed_sum, within, lowered, improves}
 use Rattle.optimality.specs.Published.{amount_of}
 use Rattle.optimality.proofs.Group.{le_of_not}
 use Rattle.optimality.proofs.Exact.{labels_sum_is}
@@ -65,7 +65,7 @@ module _ {C L S : Type 0} (c : cost.Ghosts C L S) where
 
 module _ {C L S : Type 0} (p : Problem C L S) (fair : Fair p) where
   -- the less of two labels has the less sum with a third
-  pub sum_less : (a b g : L) → p.kind.ops.size a < 2 ^ 44 → p.kind.ops.size b < 2 ^ 44 → p.kind.ops.size g < 2 ^ 44 → p.kind.ops.leb b a ≡ false → Le p.kind.ops (sum p.kind b g) (sum p.kind a g) → ⊥
+  pub sum_less : (a b g : L) → p.kind.ops.size a < 2 ^ 44 → p.kind.ops.size b < 2 ^ 44 → p.kind.ops.size g < 2 ^ 44 → p.kind.ops.leb b a ≡ false → Le p.kind.ops (computed_sum p.kind b g) (computed_sum p.kind a g) → ⊥
   sum_less a b g x y z less le =
       let exact = rw (labels_sum_is p fair b g y z, labels_sum_is p fair a g x z) at le in
       true≢false (sym (fair.laws.le_cancel b a g exact) ∙ less)

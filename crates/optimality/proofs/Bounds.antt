@@ -12,7 +12,7 @@ use Rattle.optimality.specs.declared.sheet.Ceiling.{Ceiling}
 use Rattle.optimality.specs.declared.sheet.Ceiling.TheVariants.{Absent, Met}
 use Rattle.optimality.specs.Sheets.{State}
 use Rattle.optimality.specs.Problems.{Problem, Fair}
-use Rattle.optimality.specs.Keys.{sum, within, smaller, key_sum, twice}
+use Rattle.optimality.specs.Keys.{computed_sum, within, smaller, key_sum, twice}
 use Rattle.optimality.specs.Search.{mark_at, front, least_sum}
 use Rattle.optimality.proofs.Marked.{OnMet, CeilLe}
 use Rattle.optimality.proofs.Having.{has_parts, on_at}
@@ -65,7 +65,7 @@ module _ {C L S : Type 0} (p : Problem C L S) (laws : Laws p.kind.ops) where
   -- The two least keys -------------------------------------------------------------------------
 
   -- a computed sum does not depend on the order
-  sum_comm : (a b : L) → sum p.kind a b ≡ sum p.kind b a
+  sum_comm : (a b : L) → computed_sum p.kind a b ≡ computed_sum p.kind b a
   sum_comm a b = rw (laws.comm a b, add_comm (p.kind.ops.size a) (p.kind.ops.size b))
 
   -- nor does the sum of two fronts' keys
@@ -105,7 +105,7 @@ module _ {C L S : Type 0} (p : Problem C L S) (fair : Fair p) where
   -- Ceilings -----------------------------------------------------------------------------------
 
   -- twice a small amount is exact
-  double_is : (a : L) → p.kind.ops.size a < 2 ^ 45 → sum p.kind a a ≡ p.kind.ops.plus a a
+  double_is : (a : L) → p.kind.ops.size a < 2 ^ 45 → computed_sum p.kind a a ≡ p.kind.ops.plus a a
   double_is a h = sum_is p.kind a a (omega arith)
 
   -- and so is twice a small ceiling

@@ -7,7 +7,7 @@ use Rattle.optimality.specs.declared.sheet.Mark.{Mark}
 use Rattle.optimality.specs.declared.sheet.Ceiling.{Ceiling}
 use Rattle.optimality.specs.declared.sheet.Ceiling.TheVariants.{Absent, Met}
 use Rattle.optimality.specs.Problems.{Problem}
-use Rattle.optimality.specs.Keys.{opened_mark, sum, lowered, met}
+use Rattle.optimality.specs.Keys.{opened_mark, computed_sum, lowered, met}
 use Rattle.optimality.proofs.Marked.{On, Has, CeilLe}
 use Rattle.optimality.proofs.Having.{on_from, on_at, has_from, has_parts}
 use Rattle.optimality.proofs.Moving.{on_map}
@@ -27,7 +27,7 @@ module _ {C L S : Type 0} (c : cost.Ghosts C L S) (laws : Laws c.ops) where
 
   -- the two labels of a station are added up without loss
   abbrev Exact : L → Option (Mark L) → Type 0
-  Exact a w = On w (λ m. sum c a m.label ≡ c.ops.plus a m.label)
+  Exact a w = On w (λ m. computed_sum c a m.label ≡ c.ops.plus a m.label)
 
   -- a new label where the other side has the mark w
   pub met_ind : (a : L) (u : ℕ) (w : Option (Mark L)) → Exact a w → (ceiling : Ceiling L) (P : Ceiling L → Type 0) → On w (λ m. P (Met (c.ops.plus a m.label) u)) → (On w (λ m. CeilLe c.ops ceiling (c.ops.plus a m.label)) → P ceiling) → P (met c a u w ceiling)
@@ -62,7 +62,7 @@ module _ {C L S : Type 0} (p : Problem C L S) (laws : Laws p.kind.ops) where
   undercut x a q b below is le = true≢false (sym (laws.le_cancel q a b (rw is at le)) ∙ below)
 
   -- a better label a is put at v
-  module _ (f g w : Marks L) (v : ℕ) (a : L) (k : Option ℕ) (puts : Puts f v (opened_mark a k) g) (exact : On (w v) (λ m. sum p.kind a m.label ≡ p.kind.ops.plus a m.label)) (ceiling : Ceiling L) where
+  module _ (f g w : Marks L) (v : ℕ) (a : L) (k : Option ℕ) (puts : Puts f v (opened_mark a k) g) (exact : On (w v) (λ m. computed_sum p.kind a m.label ≡ p.kind.ops.plus a m.label)) (ceiling : Ceiling L) where
     -- the ceiling is still at most the sum of two labels of one station
     pub joint_met : Joint p f w ceiling → Joint p g w (met p.kind a v (w v) ceiling)
     joint_met joint i =

@@ -9,17 +9,17 @@ use Rattle.faults.specs.declared.Side.TheVariants.{Forward, Backward}
 use Rattle.networks.specs.declared.section.Section.{Section}
 use Rattle.networks.specs.Nets.{tail, head}
 use Rattle.optimality.specs.Problems.{Problem, Fair, Consistent, Arc, guess}
-use Rattle.optimality.specs.Keys.{sum, difference, key}
+use Rattle.optimality.specs.Keys.{computed_sum, computed_difference, key}
 use Rattle.optimality.proofs.Group.{minus_plus, opposite_sum, drop_le, key_rises, key_half, key_pair}
 use Rattle.optimality.proofs.Invariant.{drop, key_at}
 
 module _ {C L S : Type 0} (c : cost.Ghosts C L S) where
   -- a sum is exact while the sizes fit
-  pub sum_is : (a b : L) → c.ops.size a + c.ops.size b ≤ 2 ^ 60 → sum c a b ≡ c.ops.plus a b
+  pub sum_is : (a b : L) → c.ops.size a + c.ops.size b ≤ 2 ^ 60 → computed_sum c a b ≡ c.ops.plus a b
   sum_is a b h = rw (le-leb _ _ h)
 
   -- and so is a difference
-  pub difference_is : (a b : L) → c.ops.size a + c.ops.size b ≤ 2 ^ 60 → difference c a b ≡ c.ops.minus a b
+  pub difference_is : (a b : L) → c.ops.size a + c.ops.size b ≤ 2 ^ 60 → computed_difference c a b ≡ c.ops.minus a b
   difference_is a b h = rw (le-leb _ _ h)
 
 module _ {C L S : Type 0} (p : Problem C L S) (fair : Fair p) where
@@ -47,11 +47,11 @@ module _ {C L S : Type 0} (p : Problem C L S) (fair : Fair p) where
       (minus_plus fair.laws (o.plus label label) e f)
 
   -- a small label and a section's amount
-  pub candidate_is : (k : ℕ) (s : Section S) (g : L) → slice_get p.net.sections k ≡ Some s → p.kind.ops.size g < 2 ^ 44 → sum p.kind g (p.kind.worth s.amount) ≡ p.kind.ops.plus g (p.kind.worth s.amount)
+  pub candidate_is : (k : ℕ) (s : Section S) (g : L) → slice_get p.net.sections k ≡ Some s → p.kind.ops.size g < 2 ^ 44 → computed_sum p.kind g (p.kind.worth s.amount) ≡ p.kind.ops.plus g (p.kind.worth s.amount)
   candidate_is k s g there h = let fit = fair.fit k s there in sum_is p.kind g (p.kind.worth s.amount) (omega arith)
 
   -- two small labels
-  pub labels_sum_is : (g h : L) → p.kind.ops.size g < 2 ^ 44 → p.kind.ops.size h < 2 ^ 44 → sum p.kind g h ≡ p.kind.ops.plus g h
+  pub labels_sum_is : (g h : L) → p.kind.ops.size g < 2 ^ 44 → p.kind.ops.size h < 2 ^ 44 → computed_sum p.kind g h ≡ p.kind.ops.plus g h
   labels_sum_is g h a b = sum_is p.kind g h (omega arith)
 
   -- Keys ---------------------------------------------------------------------------------------

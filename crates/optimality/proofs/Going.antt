@@ -9,7 +9,7 @@ use Rattle.optimality.specs.declared.sheet.Front.{Front}
 use Rattle.optimality.specs.declared.sheet.Ceiling.{Ceiling}
 use Rattle.optimality.specs.declared.sheet.Ceiling.TheVariants.{Absent, Met}
 use Rattle.optimality.specs.Problems.{Problem, Fair, Consistent, Arc, start}
-use Rattle.optimality.specs.Keys.{opened_mark, sum, met}
+use Rattle.optimality.specs.Keys.{opened_mark, computed_sum, met}
 use Rattle.optimality.proofs.Marked.{On, Has, CeilLe}
 use Rattle.optimality.proofs.Having.{on_at, on_from, has_from, has_parts}
 use Rattle.optimality.proofs.Moving.{on_map}
@@ -164,7 +164,7 @@ module _ {C L S : Type 0} (p : Problem C L S) (fair : Fair p) (con : Consistent 
         (λ ne. on_map (f i) _ _ (λ m. chain_kept p side f g unmoved (suc n) i m.label m.arrival) (going.stands.chained i))
 
     -- all else stands too, with the ceiling that is met
-    pub putting_going : On (w v) (λ m. sum p.kind a m.label ≡ p.kind.ops.plus a m.label) → Going p side r n w g (met p.kind a v (w v) ceiling) Waits
+    pub putting_going : On (w v) (λ m. computed_sum p.kind a m.label ≡ p.kind.ops.plus a m.label) → Going p side r n w g (met p.kind a v (w v) ceiling) Waits
     putting_going exact =
         record {
           stands = record {

@@ -22,3 +22,4 @@ pub mod Better
 pub mod Progress
 pub mod Written
 pub mod Rule
+pub mod Bounded

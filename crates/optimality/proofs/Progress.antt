@@ -9,7 +9,7 @@ use Rattle.optimality.specs.declared.sheet.Front.{Front}
 use Rattle.optimality.specs.declared.sheet.Ceiling.TheVariants.{Met}
 use Rattle.optimality.specs.Sheets.{is_closed, State}
 use Rattle.optimality.specs.Problems.{Problem, Fair}
-use Rattle.optimality.specs.Keys.{opened_mark, sum, improves}
+use Rattle.optimality.specs.Keys.{opened_mark, computed_sum, improves}
 use Rattle.optimality.specs.Search.{mark_in, mark_at, Spread, closing}
 use Rattle.optimality.specs.Published.{Candidate}
 use Rattle.optimality.proofs.Putting.{Puts, puts_ind, put_puts, written_elsewhere, written_beside, length-put}
@@ -19,7 +19,7 @@ use Rattle.optimality.proofs.Better.{under, worse_open}
 pub only : {C L S : Type 0} (p : Problem C L S) (side : Side) (f : Front L) (n v u : ℕ) (a b : L) → Candidate p side f v n a → Candidate p side f u n b → (u ≡ v) × (b ≡ a)
 only p side f n v u a b c d =
     let same : d.section ≡ c.section = cc (d.arc.0, c.arc.0) in
-    (sym d.to ∙ ap (head side) same ∙ c.to, d.amount ∙ ap (λ s. sum p.kind f.label (p.kind.worth s.amount)) same ∙ sym c.amount)
+    (sym d.to ∙ ap (head side) same ∙ c.to, d.amount ∙ ap (λ s. computed_sum p.kind f.label (p.kind.worth s.amount)) same ∙ sym c.amount)
 
 module _ {C L S : Type 0} (p : Problem C L S) (side : Side) (f : Front L) (before : State C L S) where
   -- the front, closed
@@ -54,7 +54,7 @@ module _ {C L S : Type 0} (p : Problem C L S) (side : Side) (f : Front L) (befor
       pub better : improves p.kind label (old v) ≡ true
       pub there : Mark L
       pub other : beyond v ≡ Some there
-      pub sum_of_both : a ≡ sum p.kind label there.label
+      pub sum_of_both : a ≡ computed_sum p.kind label there.label
 
   module _ (n : ℕ) (sp : Spread C L S) where
     -- Station v has a better label than before, from section k below n, the first that leads there with it.

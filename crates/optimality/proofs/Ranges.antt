@@ -2,8 +2,7 @@
 use Rattle.std.proofs.Common.{◌≡◌, ℕ, zero, suc, ◌^◌, ◌<◌, List, [], ◌∷◌, Some, None, Option, refl, subst, arith}
 use Rattle.std.proofs.lemmas.Option.{none-some}
 use Rattle.std.specs.List.{AllByRecursion, slice_get}
-use Rattle.amounts.specs.Amount.{Laws, SectionFit}
-use Rattle.amounts.specs.Forms.{SectionLaws, LabelLaws, OnPage}
+use Rattle.amounts.specs.Amount.{Laws, RangeLaws, SectionFit}
 use Rattle.amounts.specs.declared.cost.Cost as cost
 use Rattle.faults.specs.declared.Side.{Side}
 use Rattle.faults.specs.declared.Side.TheVariants.{Forward, Backward}
@@ -18,42 +17,39 @@ all_at P [] k x h e = absurd (none-some _ e)
 all_at P (y ∷ ys) zero x h e = let same : y ≡ x = cc in subst P same h.0
 all_at P (y ∷ ys) (suc k) x h e = all_at P ys k x h.1 e
 
-module _ {C L S : Type 0} (c : cost.Ghosts C L S) (net : Net S) (range : InRange c.parts net) where
+module _ {C L S : Type 0} (c : cost.Ghosts C L S) (net : Net S) (range : InRange c.section_range net) where
   pub tail_within : (k : ℕ) (s : Section S) (side : Side) → slice_get net.sections k ≡ Some s → tail side s < net.stations
-  tail_within k s side e = go side (all_at (SectionInRange c.parts net.stations) net.sections k s range.each e)
+  tail_within k s side e = go side (all_at (SectionInRange c.section_range net.stations) net.sections k s range.each e)
     where
-      go : (side : Side) → SectionInRange c.parts net.stations s → tail side s < net.stations
+      go : (side : Side) → SectionInRange c.section_range net.stations s → tail side s < net.stations
       go Forward r = r.from
       go Backward r = r.to
 
-  pub section_fit : SectionLaws c.ops c.worth c.parts c.made → (k : ℕ) (s : Section S) → slice_get net.sections k ≡ Some s → SectionFit c.ops (c.worth s.amount)
-  section_fit laws k s e = laws.fit s.amount ((all_at (SectionInRange c.parts net.stations) net.sections k s range.each e).amount)
+  pub section_fit : RangeLaws c.ops c.worth c.section_range c.estimate_range → (k : ℕ) (s : Section S) → slice_get net.sections k ≡ Some s → SectionFit c.ops (c.worth s.amount)
+  section_fit laws k s e = laws.section s.amount ((all_at (SectionInRange c.section_range net.stations) net.sections k s range.each e).amount)
 
   pub start_within : (side : Side) → start net side < net.stations
   start_within Forward = range.launcher
   start_within Backward = range.trap
 
-pub estimate_small : {C L S : Type 0} (c : cost.Ghosts C L S) → Laws c.ops → LabelLaws c.ops c.shown c.told → (given : List (Pair L)) → GivenInRange c.shown given → (side : Side) (u : ℕ) → c.ops.size (estimate c given side u) < 2 ^ 44
-estimate_small {C} {L} {S} c laws labels given range side u = go (slice_get given u) refl
+pub estimate_small : {C L S : Type 0} (c : cost.Ghosts C L S) → Laws c.ops → RangeLaws c.ops c.worth c.section_range c.estimate_range → (given : List (Pair L)) → GivenInRange c.estimate_range given → (side : Side) (u : ℕ) → c.ops.size (estimate c given side u) < 2 ^ 44
+estimate_small {C} {L} {S} c laws ranges given range side u = go (slice_get given u) refl
   where
-    small : (a : L) → OnPage c.shown a → c.ops.size a < 2 ^ 44
-    small a h = labels.small a h.0 h.1
-
-    of_side : (side : Side) (e : Pair L) → PairInRange c.shown e → c.ops.size (of_pair side e) < 2 ^ 44
-    of_side Forward e h = small e.forward h.forward
-    of_side Backward e h = small e.backward h.backward
+    of_side : (side : Side) (e : Pair L) → PairInRange c.estimate_range e → c.ops.size (of_pair side e) < 2 ^ 44
+    of_side Forward e h = ranges.estimate e.forward h.forward
+    of_side Backward e h = ranges.estimate e.backward h.backward
 
     go : (e : Option (Pair L)) → slice_get given u ≡ e → c.ops.size (estimate c given side u) < 2 ^ 44
     go None e = rw e (omega (arith, laws.size_zero))
-    go (Some x) e = rw e (of_side side x (all_at (PairInRange c.shown) given u x range e))
+    go (Some x) e = rw e (of_side side x (all_at (PairInRange c.estimate_range) given u x range e))
 
-pub fair_of : {C L S : Type 0} (p : Problem C L S) → Laws p.kind.ops → SectionLaws p.kind.ops p.kind.worth p.kind.parts p.kind.made → LabelLaws p.kind.ops p.kind.shown p.kind.told → InRange p.kind.parts p.net → GivenInRange p.kind.shown p.estimates → Fair p
-fair_of p laws sections labels range given =
+pub fair_of : {C L S : Type 0} (p : Problem C L S) → Laws p.kind.ops → RangeLaws p.kind.ops p.kind.worth p.kind.section_range p.kind.estimate_range → InRange p.kind.section_range p.net → GivenInRange p.kind.estimate_range p.estimates → Fair p
+fair_of p laws ranges range given =
     record {
       laws = laws;
       starts = start_within p.kind p.net range;
       ends = tail_within p.kind p.net range;
-      fit = section_fit p.kind p.net range sections;
+      fit = section_fit p.kind p.net range ranges;
       few = range.few;
-      small = estimate_small p.kind laws labels p.estimates given;
+      small = estimate_small p.kind laws ranges p.estimates given;
     }

@@ -16,7 +16,7 @@ use Rattle.optimality.specs.declared.sheet.Front.{Front}
 use Rattle.optimality.specs.declared.sheet.Ceiling.{Ceiling}
 use Rattle.optimality.specs.Sheets.{is_closed, put, State}
 use Rattle.optimality.specs.Problems.{Problem, Fair, Consistent, Arc}
-use Rattle.optimality.specs.Keys.{opened_mark, sum, met, improves}
+use Rattle.optimality.specs.Keys.{opened_mark, computed_sum, met, improves}
 use Rattle.optimality.specs.Search.{mark_at, Spread, reach, along, spread, closing}
 use Rattle.optimality.proofs.Marked.{On, Has}
 use Rattle.optimality.proofs.Having.{on_at, has_from, has_parts}
@@ -131,7 +131,7 @@ module _ {C L S : Type 0} (p : Problem C L S) (fair : Fair p) (con : Consistent 
           let inside : v < length sp.rows = omega (arith, gone.keeps.long) in
           let puts = put_puts p.kind sp.rows v inside side m a_small in
           let better = improves_yes p.kind a (f v) e in
-          let exact : (rows : List (Row C L S)) → On (mark_at p.kind rows (opposite side) v) (λ q. sum p.kind a q.label ≡ p.kind.ops.plus a q.label) =
+          let exact : (rows : List (Row C L S)) → On (mark_at p.kind rows (opposite side) v) (λ q. computed_sum p.kind a q.label ≡ p.kind.ops.plus a q.label) =
           λ rows. on_map (mark_at p.kind rows (opposite side) v) _ _ (λ q. labels_sum_is p fair a q.label a_small) (seen_small p.kind fair.laws rows (opposite side) v) in
           done (record { rows = put sp.rows side v m; ceiling = met p.kind a v (mark_at p.kind sp.rows (opposite side) v) sp.ceiling }) (λ o. has_from _ _ m puts.here (fair.laws.le_refl a))
           (record {

@@ -1,11 +1,10 @@
 -- A front is taken: the search stands after it, its ceiling has not risen, and its floor has not fallen.
-use Rattle.std.proofs.Common.{◌≡◌, ℕ, zero, suc, ◌+◌, ◌<◌, Bool, true, false, true≢false, List, length, Some, None, Option, sym, refl, ap, ap₂, ◌∙◌, subst, subst₂, arith}
+use Rattle.std.proofs.Common.{◌≡◌, ℕ, zero, suc, ◌+◌, ◌<◌, true, false, true≢false, List, length, Some, None, Option, sym, refl, ap, ap₂, ◌∙◌, subst, subst₂, arith}
 use Rattle.std.proofs.lemmas.Bool.{false_from_ne_true, lt-ltb}
 use Rattle.amounts.specs.Amount.{Le}
 use Rattle.amounts.specs.declared.cost.Cost as cost
 use Rattle.faults.specs.Faults.{opposite}
 use Rattle.faults.specs.declared.Side.{Side}
-use Rattle.faults.specs.declared.Side.TheVariants.{Forward, Backward}
 use Rattle.networks.specs.declared.estimates.Pair.{Pair}
 use Rattle.networks.specs.Nets.{starters}
 use Rattle.networks.specs.Routes.{Route}

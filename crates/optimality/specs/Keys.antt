@@ -20,11 +20,11 @@ opened_mark a k = record { label = a; arrival = k; closed = false }
 module _ {C L S : Type 0} (c : cost.Ghosts C L S) where
   -- Amounts, as they are computed ---------------------------------------------------------------
 
-  abbrev pub sum : L → L → L
-  sum a b = (computed c.ops).plus a b
+  abbrev pub computed_sum : L → L → L
+  computed_sum a b = (computed c.ops).plus a b
 
-  abbrev pub difference : L → L → L
-  difference a b = (computed c.ops).minus a b
+  abbrev pub computed_difference : L → L → L
+  computed_difference a b = (computed c.ops).minus a b
 
   abbrev pub at_most : L → L → Bool
   at_most a b = c.ops.leb a b
@@ -62,11 +62,11 @@ module _ {C L S : Type 0} (c : cost.Ghosts C L S) where
   abbrev pub key_sum : Option (Front L) → Option (Front L) → Option L
   key_sum None b = None
   key_sum (Some a) None = None
-  key_sum (Some a) (Some b) = Some (sum a.key b.key)
+  key_sum (Some a) (Some b) = Some (computed_sum a.key b.key)
 
   abbrev pub twice : Ceiling L → Option L
   twice Absent = None
-  twice (Met a m) = Some (sum a a)
+  twice (Met a m) = Some (computed_sum a a)
 
   -- Ceilings and labels ------------------------------------------------------------------------
 
@@ -78,7 +78,7 @@ module _ {C L S : Type 0} (c : cost.Ghosts C L S) where
   -- station u got a label on one side, and the other side has the mark
   abbrev pub met : L → ℕ → Option (Mark L) → Ceiling L → Ceiling L
   met a u None ceiling = ceiling
-  met a u (Some m) ceiling = lowered (sum a m.label) u ceiling
+  met a u (Some m) ceiling = lowered (computed_sum a m.label) u ceiling
 
   -- not closed, and unlabelled or labelled higher
   abbrev pub improves : L → Option (Mark L) → Bool
@@ -93,7 +93,7 @@ module _ {C L S : Type 0} (c : cost.Ghosts C L S) where
 module _ {C L S : Type 0} (c : cost.Ghosts C L S) (estimates : List (Pair L)) where
   -- twice the label, and the side's own estimate less the other one
   abbrev pub key : Side → ℕ → L → L
-  key side u label = difference c (sum c (sum c label label) (estimate c estimates side u)) (estimate c estimates (opposite side) u)
+  key side u label = computed_difference c (computed_sum c (computed_sum c label label) (estimate c estimates side u)) (estimate c estimates (opposite side) u)
 
   -- the station, where it is open
   abbrev pub front_of : Side → ℕ → Option (Mark L) → Option (Front L)
@@ -102,4 +102,4 @@ module _ {C L S : Type 0} (c : cost.Ghosts C L S) (estimates : List (Pair L)) wh
 
   -- the side's estimate falls by more than the amount along the section, which is open
   abbrev pub breaks : Side → Section S → Bool
-  breaks side s = not s.shut && not (at_most c (difference c (estimate c estimates side (tail side s)) (estimate c estimates side (head side s))) (c.worth s.amount))
+  breaks side s = not s.shut && not (at_most c (computed_difference c (estimate c estimates side (tail side s)) (estimate c estimates side (head side s))) (c.worth s.amount))

@@ -3,3 +3,4 @@ pub mod Problems
 pub mod Keys
 pub mod Search
 pub mod Published
+pub mod Bounded

@@ -1,5 +1,5 @@
 -- What a step does, as a relation: which station it takes, and what it changes.
-use Rattle.std.specs.Prelude.{◌≡◌, ℕ, ◌+◌, ◌<◌, ◌≤◌, true, false, List, length, Some, None, Option, ◌⊎◌}
+use Rattle.std.specs.Prelude.{◌≡◌, ℕ, ◌+◌, ◌^◌, ◌<◌, ◌≤◌, true, false, List, length, Some, None, Option, ◌⊎◌}
 use Rattle.std.specs.List.{slice_get}
 use Rattle.amounts.specs.Amount.{Le}
 use Rattle.faults.specs.Faults.{opposite}
@@ -13,7 +13,7 @@ use Rattle.optimality.specs.declared.sheet.Ceiling.{Ceiling}
 use Rattle.optimality.specs.declared.sheet.Ceiling.TheVariants.{Absent, Met}
 use Rattle.optimality.specs.Sheets.{State}
 use Rattle.optimality.specs.Problems.{Problem, Arc}
-use Rattle.optimality.specs.Keys.{opened_mark, sum, key, within, improves}
+use Rattle.optimality.specs.Keys.{opened_mark, computed_sum, key, within, improves}
 use Rattle.optimality.specs.Search.{mark_in, mark_at}
 
 -- what a ceiling amounts to
@@ -40,7 +40,16 @@ module _ {C L S : Type 0} (p : Problem C L S) (side : Side) (f : Front L) where
     pub arc : Arc p k section
     pub from : tail side section ≡ f.station
     pub to : head side section ≡ v
-    pub amount : a ≡ sum p.kind f.label (p.kind.worth section.amount)
+    pub amount : a ≡ computed_sum p.kind f.label (p.kind.worth section.amount)
+
+  -- Going along section k would write the candidate a at station v, and no row holds it: it is better than what the side
+  -- reads there, and less than each candidate by an earlier section, so none of those keeps it from being written.
+  pub record TooLarge (before : State C L S) (v k : ℕ) (a : L) : Type 0 where
+    pub candidate : Candidate v k a
+    pub elsewhere : v ≡ f.station → ⊥
+    pub better : improves p.kind a (mark_at p.kind before.rows side v) ≡ true
+    pub earlier : (j : ℕ) (b : L) → j < k → Candidate v j b → Le p.kind.ops b a → ⊥
+    pub size : 2 ^ 44 ≤ p.kind.ops.size a
 
   module _ (before after : State C L S) where
     -- Station v, which is not closed, and is unlabelled or labelled higher, is open with the least candidate; of
@@ -62,7 +71,7 @@ module _ {C L S : Type 0} (p : Problem C L S) (side : Side) (f : Front L) where
       pub relabelled : Relabelled v k label
       pub there : Mark L
       pub other : mark_at p.kind before.rows (opposite side) v ≡ Some there
-      pub sum_of_both : a ≡ sum p.kind label there.label
+      pub sum_of_both : a ≡ computed_sum p.kind label there.label
 
     -- The ceiling is the least of these sums, if that is less than it was; of several, the one of the lowest section.
     pub record Lowered (v k : ℕ) (a : L) : Type 0 where

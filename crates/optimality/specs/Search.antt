@@ -15,7 +15,7 @@ use Rattle.optimality.specs.declared.sheet.Ceiling.{Ceiling}
 use Rattle.optimality.specs.declared.sheet.Ceiling.TheVariants.{Absent, Met}
 use Rattle.optimality.specs.Sheets.{mark_on, put, State}
 use Rattle.optimality.specs.Problems.{Problem}
-use Rattle.optimality.specs.Keys.{opened_mark, sum, fits_row, seen, front_of, nearer, within, smaller, key_sum, twice, met, improves, first_mark}
+use Rattle.optimality.specs.Keys.{opened_mark, computed_sum, fits_row, seen, front_of, nearer, within, smaller, key_sum, twice, met, improves, first_mark}
 
 -- what a station's row says of a side; nothing where there is no row
 abbrev pub mark_in : {C L S : Type 0} → Side → Option (Row C L S) → Option (Mark L)
@@ -47,7 +47,7 @@ module _ {C L S : Type 0} (c : cost.Ghosts C L S) where
   -- section k, from a station with the label
   abbrev pub along : Side → L → ℕ → Option (Section S) → Spread C L S → Option (Spread C L S)
   along side label k None sp = Some sp
-  along side label k (Some s) sp = cond s.shut (Some sp) (reach side k (head side s) (sum c label (c.worth s.amount)) sp)
+  along side label k (Some s) sp = cond s.shut (Some sp) (reach side k (head side s) (computed_sum c label (c.worth s.amount)) sp)
 
   -- the numbered sections, one after the other
   abbrev pub spread : Net S → Side → L → List ℕ → Spread C L S → Option (Spread C L S)

@@ -17,6 +17,15 @@ fn cut_at_every_length(rt: HostRuntime) {
     }
 }
 
+/// Two things are wrong at one record, its kind and its length: the kind comes first.
+#[test]
+fn another_kind_cut_short(rt: HostRuntime) {
+    let mut view = blank::<Samples>();
+    let kind = Layer::Page.fault(Refusal::UnexpectedKind { offset: 0 });
+    assert_eq!(rt; read(&[0x53], &mut view), Err(kind));
+    assert_eq!(rt; (kind.number(), kind.place()), (2, 0));
+}
+
 /// What each byte of a record is: its kind `k`; a byte that 255 makes wrong `f`, or leaves right `.`; the low byte of a
 /// count, which 255 leaves in its range, so that another record is due than stands there: of stations `e`, of sections
 /// `s`, of steps `p`.

@@ -1,6 +1,6 @@
 //! Pages read, retraced, and written again from what they mean.
 use crate::worked::{ANSWERED, MOVES_ANSWERED, MOVES_PLAIN, PLAIN, UNREACHED};
-use amounts::cost::Cost;
+use amounts::forms::PageCost;
 use amounts::kinds::{Moves, Samples};
 use contents::answer::{Filed, Step, WholeAnswer};
 use faults::{Fault, Layer, Refusal};
@@ -12,7 +12,7 @@ use std::test::Fail;
 use writing::write::write;
 
 /// Writes a network and estimates, with an answer and its steps.
-fn put<C: Cost, N: Network<C>, E: Estimates<C>>(
+fn put<C: PageCost, N: Network<C>, E: Estimates<C>>(
     out: &mut [u8],
     net: &N,
     estimates: &E,
@@ -37,7 +37,7 @@ fn put<C: Cost, N: Network<C>, E: Estimates<C>>(
 }
 
 /// Writes what a page means over the front of another.
-fn again<C: Cost>(
+fn again<C: PageCost>(
     heap: Global,
     page: &[u8],
     out: &mut [u8],
@@ -107,7 +107,7 @@ fn another_kind(rt: HostRuntime) -> Result<(), Fail> {
 }
 
 /// Whether a page that is read for a kind retraces.
-fn retraces<C: Cost>(page: &[u8]) -> Option<bool> {
+fn retraces<C: PageCost>(page: &[u8]) -> Option<bool> {
     let mut view = blank::<C>();
     read(page, &mut view).ok()?;
     Some(view.retrace())

@@ -9,13 +9,13 @@ ghost use Rattle.contents.specs.Content.{step_from, net_of, answer_of, filed_by,
 
 use crate::page_network::{label_from, nth_record};
 use crate::view::PageView;
-use amounts::cost::Cost;
+use amounts::forms::PageCost;
 use contents::answer::{Filed, Outcome, Step};
 use records::due::bytes_from;
 use records::kinds::{AnswerRecord, EstimateRecord, HeaderRecord, SectionRecord, StepRecord};
 use records::record::Record;
 
-impl<C: Cost> PageView<'_, C> {
+impl<C: PageCost> PageView<'_, C> {
     /// Where an answer, or the end, stands.
     fn answer_at(&self) -> usize
         ensures { result ≡ 10 + 12 * (header_of self.now.bytes.now).sections + 21 * (header_of self.now.bytes.now).stations }
@@ -37,7 +37,7 @@ impl<C: Cost> PageView<'_, C> {
 
     /// The answer on the page, if there is one, without its steps.
     pub fn answer(&self) -> Option<Filed<C::Label>>
-        ensures { result ≡ option_map filed_by (answer_of C.Cost self.now.bytes.now) }
+        ensures { result ≡ option_map filed_by (answer_of C.Cost C.forms self.now.bytes.now) }
     {
         let body = self.answer_record()?;
         Some(Filed {
@@ -51,7 +51,7 @@ impl<C: Cost> PageView<'_, C> {
 
     /// The step that a record tells: its section, the section's ends, and the cost so far.
     fn step_from(&self, body: StepRecord) -> Step<C::Label>
-        ensures { result ≡ step_from C.Cost (net_of C.Cost self.now.bytes.now).sections body }
+        ensures { result ≡ step_from C.Cost C.forms (net_of C.Cost C.forms self.now.bytes.now).sections body }
     {
         let section = usize::from(body.section);
         let (from, to) = self.ends(section);
@@ -65,7 +65,7 @@ impl<C: Cost> PageView<'_, C> {
 
     /// The k-th step of the answer, from 0.
     pub fn step(&self, k: usize) -> Option<Step<C::Label>>
-        ensures { result ≡ step_in (answer_of C.Cost self.now.bytes.now) k }
+        ensures { result ≡ step_in (answer_of C.Cost C.forms self.now.bytes.now) k }
     {
         let answer = self.answer_record()?;
         let body: StepRecord = nth_record(

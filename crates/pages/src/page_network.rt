@@ -7,7 +7,7 @@ ghost use Rattle.contents.specs.Checks.{header_of, section_bytes, estimate_bytes
 ghost use Rattle.contents.specs.Content.{start_of, from_of, to_of, section_from, label_from, pair_from, net_of, pairs_of};
 
 use crate::view::PageView;
-use amounts::cost::{Cost, LabelForm};
+use amounts::forms::{LabelForm, PageCost};
 use faults::Side;
 use networks::estimates::{Estimates, Pair};
 use networks::network::Network;
@@ -33,8 +33,8 @@ pub(crate) fn nth_record<R: Record<SIZE>, const SIZE: usize>(
 }
 
 /// The section that a record tells.
-fn section_from<C: Cost>(body: SectionRecord) -> Section<C::Section>
-    ensures { result ≡ section_from C.Cost body }
+fn section_from<C: PageCost>(body: SectionRecord) -> Section<C::Section>
+    ensures { result ≡ section_from C.Cost C.forms body }
 {
     Section {
         from: usize::from(body.from),
@@ -45,14 +45,14 @@ fn section_from<C: Cost>(body: SectionRecord) -> Section<C::Section>
 }
 
 /// The amount that a form tells, or zero.
-pub(crate) fn label_from<C: Cost>(form: LabelForm) -> C::Label
-    ensures { result ≡ label_from C.Cost form }
+pub(crate) fn label_from<C: PageCost>(form: LabelForm) -> C::Label
+    ensures { result ≡ label_from C.Cost C.forms form }
 {
     C::told(form).unwrap_or(C::ZERO)
 }
 
-fn pair_from<C: Cost>(body: EstimateRecord) -> Pair<C::Label>
-    ensures { result ≡ pair_from C.Cost body }
+fn pair_from<C: PageCost>(body: EstimateRecord) -> Pair<C::Label>
+    ensures { result ≡ pair_from C.Cost C.forms body }
 {
     Pair {
         forward: label_from::<C>(body.forward),
@@ -60,10 +60,10 @@ fn pair_from<C: Cost>(body: EstimateRecord) -> Pair<C::Label>
     }
 }
 
-impl<C: Cost> PageView<'_, C> {
+impl<C: PageCost> PageView<'_, C> {
     /// Where a section goes from and to; 0 where there is none.
     pub(crate) fn ends(&self, number: usize) -> (usize, usize)
-        ensures { result ≡ (from_of (slice_get (net_of C.Cost self.now.bytes.now).sections number), to_of (slice_get (net_of C.Cost self.now.bytes.now).sections number)) }
+        ensures { result ≡ (from_of (slice_get (net_of C.Cost C.forms self.now.bytes.now).sections number), to_of (slice_get (net_of C.Cost C.forms self.now.bytes.now).sections number)) }
     {
         self.section_record(number).map_or((0, 0), |body| {
             (usize::from(body.from), usize::from(body.to))
@@ -99,8 +99,8 @@ fn start(body: &SectionRecord, side: Side) -> usize
     }
 }
 
-impl<'a, C: Cost> Network<C> for PageView<'a, C> {
-    ghost meaning = { λ v. net_of C.Cost v.bytes.now };
+impl<'a, C: PageCost> Network<C> for PageView<'a, C> {
+    ghost meaning = { λ v. net_of C.Cost C.forms v.bytes.now };
 
     fn stations(&self) -> usize {
         usize::from(self.header.stations)
@@ -141,8 +141,8 @@ impl<'a, C: Cost> Network<C> for PageView<'a, C> {
     }
 }
 
-impl<'a, C: Cost> Estimates<C> for PageView<'a, C> {
-    ghost meaning = { λ v. pairs_of C.Cost v.bytes.now };
+impl<'a, C: PageCost> Estimates<C> for PageView<'a, C> {
+    ghost meaning = { λ v. pairs_of C.Cost C.forms v.bytes.now };
 
     fn count(&self) -> usize {
         usize::from(self.header.stations)

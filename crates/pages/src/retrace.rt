@@ -6,6 +6,7 @@ ghost use Rattle.contents.specs.Retracing.{RetracedIn, retraced, walks, same as 
 
 use crate::view::PageView;
 use amounts::cost::Cost;
+use amounts::forms::PageCost;
 use contents::answer::{Outcome, Step};
 use networks::network::Network;
 
@@ -17,10 +18,10 @@ fn same<C: Cost>(a: C::Label, b: C::Label) -> bool
     C::at_most(a, b) && C::at_most(b, a)
 }
 
-impl<C: Cost> PageView<'_, C> {
+impl<C: PageCost> PageView<'_, C> {
     /// Whether a step's section is open and starts at the station, and its cost so far is right.
     fn right(&self, station: usize, cost: C::Label, step: Step<C::Label>) -> bool
-        ensures { result ≡ step_right C.Cost station cost step (slice_get (net_of C.Cost self.now.bytes.now).sections step.section) }
+        ensures { result ≡ step_right C.Cost station cost step (slice_get (net_of C.Cost C.forms self.now.bytes.now).sections step.section) }
     {
         let Some(section) = self.section(step.section) else {
             return false;
@@ -32,8 +33,8 @@ impl<C: Cost> PageView<'_, C> {
 
     /// Whether the answer's steps, from the launcher on, are a route whose every cost is right.
     fn walk(&self, steps: usize, total: C::Label) -> bool
-        requires { steps ≡ length (steps_in (answer_of C.Cost self.now.bytes.now)) }
-        ensures { result ≡ walks C.Cost (net_of C.Cost self.now.bytes.now) (net_of C.Cost self.now.bytes.now).launcher C.Cost.ops.zero total (steps_in (answer_of C.Cost self.now.bytes.now)) }
+        requires { steps ≡ length (steps_in (answer_of C.Cost C.forms self.now.bytes.now)) }
+        ensures { result ≡ walks C.Cost (net_of C.Cost C.forms self.now.bytes.now) (net_of C.Cost C.forms self.now.bytes.now).launcher C.Cost.ops.zero total (steps_in (answer_of C.Cost C.forms self.now.bytes.now)) }
     {
         let mut station = self.launcher();
         let mut cost = C::ZERO;
@@ -52,7 +53,7 @@ impl<C: Cost> PageView<'_, C> {
     }
 
     fn holds(&self) -> bool
-        ensures { result ≡ retraced C.Cost (net_of C.Cost self.now.bytes.now) (answer_of C.Cost self.now.bytes.now) }
+        ensures { result ≡ retraced C.Cost (net_of C.Cost C.forms self.now.bytes.now) (answer_of C.Cost C.forms self.now.bytes.now) }
     {
         let Some(answer) = self.answer() else {
             return false;
@@ -66,8 +67,8 @@ impl<C: Cost> PageView<'_, C> {
     /// Whether the page has an answer with a route, its steps are a route of the network from launcher to trap
     /// through open sections, and every cost that it shows is right.
     pub fn retrace(&self) -> bool
-        ensures exact { result ≡ retraced C.Cost (net_of C.Cost self.now.bytes.now) (answer_of C.Cost self.now.bytes.now) }
-        ensures holds { (result ≡ true) ↔ RetracedIn C.Cost (net_of C.Cost self.now.bytes.now) (answer_of C.Cost self.now.bytes.now) }
+        ensures exact { result ≡ retraced C.Cost (net_of C.Cost C.forms self.now.bytes.now) (answer_of C.Cost C.forms self.now.bytes.now) }
+        ensures holds { (result ≡ true) ↔ RetracedIn C.Cost (net_of C.Cost C.forms self.now.bytes.now) (answer_of C.Cost C.forms self.now.bytes.now) }
     {
         self.holds()
     }

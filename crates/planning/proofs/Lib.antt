@@ -1,5 +1,6 @@
+pub mod Answering
 pub mod Turning
-pub mod Rooms
 pub mod Telling
+pub mod Naming
 pub mod Pages
 pub mod Words

@@ -11,7 +11,7 @@ use Rattle.faults.specs.declared.Fault.{Fault}
 use Rattle.faults.specs.declared.Side.{Side}
 use Rattle.faults.specs.declared.Side.TheVariants.{Forward, Backward}
 use Rattle.faults.specs.declared.Refusal.{Refusal}
-use Rattle.faults.specs.declared.Refusal.TheVariants.{TooFewRows, EstimateCount, Inconsistent}
+use Rattle.faults.specs.declared.Refusal.TheVariants.{TooFewRows, EstimateCount, Inconsistent, NotEnded}
 use Rattle.optimality.specs.declared.sheet.Row.{Row}
 use Rattle.optimality.specs.declared.sheet.Ceiling.{Ceiling}
 use Rattle.optimality.specs.declared.sheet.Ceiling.TheVariants.{Absent, Met}
@@ -22,23 +22,36 @@ use Rattle.search.specs.declared.running.Running.{Running}
 use Rattle.search.specs.declared.running.Unopened.{Unopened}
 use Rattle.search.specs.declared.running.Finished.{Finished}
 use Rattle.search.specs.declared.running.Unfinished.{Unfinished}
-use Rattle.search.specs.Calls.{search_fault, Left, step_of, standing, running, Opening, Stepped, opening_by, begun, first_broken, unfit, step, unfinished, finish_by, conclusion, posed, problem, open_of, finish_of}
-use Rattle.search.specs.Claims.{Call, step_by_side, one_if, Own, StepAccepted, StepRefused}
+use Rattle.optimality.specs.Search.{front, ended}
+use Rattle.search.specs.Calls.{search_fault, Left, step_of, standing, running, Opening, Stepped, opening_by, begun, first_broken, unfit, own, short, foreign, turned_down, step_by, step, unfinished, finish_by, conclusion, posed, problem, open_of, finish_of}
+use Rattle.search.specs.Claims.{Call, step_by_side, one_if, Leads, Own, StepAccepted, StepRefused, Sound}
 use Rattle.search.proofs.Consistency.{unfit_room, unfit_consistent, unfit_broken}
 use Rattle.search.proofs.Runs.{begun_good, through, after_call}
 use Rattle.search.proofs.Main.{sound, own_more}
-use Rattle.planning.specs.Turns.{in_turn, opened_to, Searched, searched_by, searched_of}
+use Rattle.planning.specs.Turns.{steps_in_turn, calls_in_turn, in_turn, opened_to, Searched, searched_by, searched_of}
 use Rattle.planning.specs.Claims.{Suits, SearchStands}
 
 ok_err : {X Y : Type 0} (x : X) (y : Y) → ◌≡◌ {A = Result X Y} (Ok x) (Err y) → ⊥
 ok_err x y e = true≢false (ap is_ok e)
 
 module _ {C L S : Type 0} (p : Problem C L S) where
-  -- after these calls the search is ended
-  pub record AtItsEnd (st : State C L S) : Type 0 where
-    pub calls : List Call
-    pub own : Own p calls st
-    pub over : unfinished p st ≡ None
+  -- so many steps in turn lead to a state where the search is ended
+  record Ends (n : ℕ) (side : Side) (st last : State C L S) : Type 0 where
+    led : Leads p st (steps_in_turn n side) last
+    over : unfinished p last ≡ None
+
+  -- an ended search turns steps down, and stands
+  stays : (st : State C L S) (side : Side) → unfinished p st ≡ None → (step p st side).state ≡ st
+  stays st side over = go (short p st) (ended p (own p st)) over
+    where
+      go : (s b : Bool) → cond s (Some (foreign p st)) (cond b None (Some (search_fault (NotEnded st.taken)))) ≡ None → (cond s (turned_down p st (foreign p st)) (step_by p st side (cond b None (front p (own p st) side)))).state ≡ st
+      go true b h = absurd (none-some _ (sym h))
+      go false true h = refl
+      go false false h = absurd (none-some _ (sym h))
+
+  all_stay : (n : ℕ) (side : Side) (st : State C L S) → unfinished p st ≡ None → Leads p st (steps_in_turn n side) st
+  all_stay zero side st over = refl
+  all_stay (suc n) side st over = (tt, subst (λ s. Leads p s (steps_in_turn n (opposite side)) st) (sym (stays st side over)) (all_stay n (opposite side) st over))
 
   module _ (fair : Fair p) where
     -- a step that is accepted is counted
@@ -50,20 +63,24 @@ module _ {C L S : Type 0} (p : Problem C L S) where
         (after_call p fair con st good (step_by_side side)).counts ∙ ap (λ a. st.taken + one_if a) took
 
     -- As many steps as there are stations left to take: one is turned down, since one station always is left.
-    pub turns_end : (n : ℕ) (side : Side) (calls : List Call) (st : State C L S) → Own p calls st → p.net.stations ≤ st.taken + n → AtItsEnd (in_turn p n side st)
+    turns_end : (n : ℕ) (side : Side) (calls : List Call) (st : State C L S) → Own p calls st → p.net.stations ≤ st.taken + n → Ends n side st (in_turn p n side st)
     turns_end zero side calls st own far = absurd (omega (arith, (sound p fair calls st own).few))
     turns_end (suc n) side calls st own far =
         let now = (step p st side).state in
         let more = own_more p calls (step_by_side side) st own tt in
         elim ((sound p fair calls st own).steps side) [ inl took ↦ on_took took (turns_end n (opposite side) (calls ++ (step_by_side side ∷ [])) now more (omega (arith, one_more calls st side own took.answer))) | inr stop ↦ on_stop stop ]
       where
-        on_stop : StepRefused p st side → AtItsEnd (in_turn p (suc n) side st)
-        on_stop stop = subst (λ r. AtItsEnd (cond (is_ok r.answer) (in_turn p n (opposite side) r.state) r.state)) (sym stop.answer) (record { calls = calls; own = own; over = stop.ended })
+        on_stop : StepRefused p st side → Ends (suc n) side st (in_turn p (suc n) side st)
+        on_stop stop =
+            subst (λ r. Ends (suc n) side st (cond (is_ok r.answer) (in_turn p n (opposite side) r.state) r.state)) (sym stop.answer)
+            (record { led = all_stay (suc n) side st stop.ended; over = stop.ended })
 
-        on_took : StepAccepted p st side → AtItsEnd (in_turn p n (opposite side) ((step p st side).state)) → AtItsEnd (in_turn p (suc n) side st)
-        on_took took rest = subst (λ b. AtItsEnd (cond b (in_turn p n (opposite side) ((step p st side).state)) ((step p st side).state))) (sym (ap is_ok took.answer)) rest
+        on_took : StepAccepted p st side → Ends n (opposite side) ((step p st side).state) (in_turn p n (opposite side) ((step p st side).state)) → Ends (suc n) side st (in_turn p (suc n) side st)
+        on_took took rest =
+            subst (λ b. Ends (suc n) side st (cond b (in_turn p n (opposite side) ((step p st side).state)) ((step p st side).state))) (sym (ap is_ok took.answer))
+            (record { led = (tt, rest.led); over = rest.over })
 
-    pub search_ends : (sheet : List (Row C L S)) → unfit p (length sheet) ≡ None → AtItsEnd (in_turn p p.net.stations Forward (begun p sheet))
+    search_ends : (sheet : List (Row C L S)) → unfit p (length sheet) ≡ None → Ends p.net.stations Forward (begun p sheet) (in_turn p p.net.stations Forward (begun p sheet))
     search_ends sheet fit = turns_end p.net.stations Forward [] (begun p sheet) (record { sheet = sheet; accepts = fit; led = refl }) (omega arith)
 
     -- Turned down -------------------------------------------------------------------------------
@@ -140,7 +157,7 @@ module _ {C N E L S : Type 0} (c : cost.Ghosts C L S) (n : network.Ghosts N C L 
   -- what a search answers, and what the sheet then holds, as it is claimed
   pub record Right (answer : Result (Finished C N E L S) Fault) (after : List (Row C L S)) : Type 0 where
     pub exact : ◌≡◌ {A = Searched C N E L S} (record { answer = answer; sheet = after }) (searched_of c n e net given sheet)
-    pub stands : SearchStands c n e net given (length sheet) answer after
+    pub stands : SearchStands c n e net given sheet answer after
 
   -- Open turned it down
   module _ (fair : Fair p) where
@@ -204,8 +221,14 @@ module _ {C N E L S : Type 0} (c : cost.Ghosts C L S) (n : network.Ghosts N C L 
 
       -- Finish is accepted, and its answer is as it is claimed
       module _ (fair : Fair p) (r : Result (Finished C N E L S) (Unfinished C N E L S)) (answers : r ≡ finish_of c n e t rows) where
-        end : AtItsEnd p last
+        end : Ends p p.net.stations Forward (begun p sheet) last
         end = search_ends p fair sheet fit
+
+        abbrev own_sheet : Own p (calls_in_turn p) last
+        own_sheet = record { sheet = sheet; accepts = fit; led = end.led }
+
+        sure : Sound p (calls_in_turn p) last own_sheet
+        sure = sound p fair (calls_in_turn p) last own_sheet
 
         finished_there : finish_of c n e there last.rows ≡ Ok (conclusion p there last.ceiling)
         finished_there = ap (finish_by p there) end.over
@@ -216,21 +239,28 @@ module _ {C N E L S : Type 0} (c : cost.Ghosts C L S) (n : network.Ghosts N C L 
         pub finish_refused : (back : Unfinished C N E L S) → r ≡ Err back → ⊥
         finish_refused back err = ok_err _ _ (sym accepted ∙ err)
 
-        concluded : (ceiling : Ceiling L) → last.ceiling ≡ ceiling → SearchStands c n e net given (length sheet) (Ok (conclusion p there ceiling)) last.rows
-        concluded Absent is = (
-          (end.calls, record { search = there; sheet = last.rows; own = end.own; finished = finished_there ∙ ap (λ x. Ok (conclusion p there x)) is }),
-          ((sound p fair end.calls last end.own).none end.over).0 is,
-        )
+        concluded : (ceiling : Ceiling L) → last.ceiling ≡ ceiling → SearchStands c n e net given sheet (Ok (conclusion p there ceiling)) last.rows
+        concluded Absent is =
+            record {
+              by_turns = record { search = there; sheet = last.rows; own = own_sheet; finished = finished_there ∙ ap (λ x. Ok (conclusion p there x)) is };
+              taken = sure.counted;
+              no_route = (sure.none end.over).0 is;
+            }
         concluded (Met a m) is =
-            let right = (sound p fair end.calls last end.own).least a m end.over is in
-            ((end.calls, record { search = there; own = end.own; finished = finished_there ∙ ap (λ x. Ok (conclusion p there x)) is }), right.0, right.1)
+            let right = sure.least a m end.over is in
+            record {
+              by_turns = record { search = there; own = own_sheet; finished = finished_there ∙ ap (λ x. Ok (conclusion p there x)) is };
+              taken = sure.counted;
+              reachable = right.0;
+              least = right.1;
+            }
 
         pub finish_accepted : (x : Finished C N E L S) → r ≡ Ok x → Right (Ok x) rows
         finish_accepted x is =
             let answer : Ok (conclusion p there last.ceiling) ≡ Ok x = sym accepted ∙ is in
             record {
               exact = ap₂ (λ answer sheet. record { answer = answer; sheet = sheet }) (ok_again _ _ (sym answer)) same_rows ∙ sym (ap (λ r. searched_by p net given sheet (opened_to p sheet r)) fit);
-              stands = subst₂ (SearchStands c n e net given (length sheet)) (ok_again _ _ answer) (sym same_rows) (concluded last.ceiling refl);
+              stands = subst₂ (SearchStands c n e net given sheet) (ok_again _ _ answer) (sym same_rows) (concluded last.ceiling refl);
             }
           where
             ok_again : {X Y Z : Type 0} (x y : X) → ◌≡◌ {A = Result X Y} (Ok x) (Ok y) → ◌≡◌ {A = Result X Z} (Ok x) (Ok y)

@@ -1,7 +1,8 @@
 -- What is filed of a search in turn.
 use Rattle.std.specs.Prelude.{ℕ, ◌+◌, ◌*◌, cond, List, replicate, length, take, Some, Ok, Err, Result}
-use Rattle.std.specs.Global.{Vec}
+use Rattle.std.specs.Result.{result_and}
 use Rattle.amounts.specs.declared.cost.Cost as cost
+use Rattle.amounts.specs.Forms.{Forms}
 use Rattle.faults.specs.declared.Fault.{Fault}
 use Rattle.networks.specs.Nets.{Net}
 use Rattle.contents.specs.Checks.{check_page}
@@ -14,11 +15,6 @@ use Rattle.filing.specs.Filing.{route_filed, none_filed}
 use Rattle.showing.specs.Shown.{says_moves}
 use Rattle.planning.specs.Turns.{made_of}
 use Rattle.planning.specs.Planned.{listed, problem_on}
-
--- the bytes that are answered, or the fault
-abbrev pub bytes_in : Result (Vec ℕ) Fault → Result (List ℕ) Fault
-bytes_in (Ok v) = Ok v.items
-bytes_in (Err f) = Err f
 
 -- the page as far as it was written, or the fault
 abbrev pub cut_to : List ℕ → Result ℕ Fault → Result (List ℕ) Fault
@@ -34,9 +30,10 @@ module _ {C L S : Type 0} (p : Problem C L S) where
   abbrev pub content_with : Meant L → Content L S
   content_with m = record { network = p.net; estimates = p.estimates; answer = Some m }
 
+module _ {C L S : Type 0} (p : Problem C L S) (forms : Forms L S) where
   -- Write, over a page that nobody has written
   abbrev pub written_with : Meant L → Result (List ℕ) Fault
-  written_with m = let w = write_of p.kind (blank_page p.net) (content_with m) in cut_to w.page w.answer
+  written_with m = let w = write_of p.kind forms (blank_page p.net) (content_with p m) in cut_to w.page w.answer
 
   module _ (run : ℕ) where
     -- Route, then Write
@@ -53,17 +50,13 @@ module _ {C L S : Type 0} (p : Problem C L S) where
 
     -- the page that is filed of a search over a sheet with a row for each station
     abbrev pub page_of : Result (List ℕ) Fault
-    page_of = made_of p found_page none_page (λ f. Err f)
+    page_of = made_of p found_page none_page
 
-module _ {C L S : Type 0} (c : cost.Ghosts C L S) (run : ℕ) where
-  abbrev pub page_read : List ℕ → Result (Unit {0}) Fault → Result (List ℕ) Fault
-  page_read page (Ok _) = page_of (problem_on c page) run
-  page_read page (Err f) = Err f
-
+module _ {C L S : Type 0} (c : cost.Ghosts C L S) (forms : Forms L S) (run : ℕ) where
   -- any page, read for this kind
   abbrev pub filed_for : List ℕ → Result (List ℕ) Fault
-  filed_for page = page_read page (check_page c.KIND page)
+  filed_for page = result_and (check_page c.KIND page) (page_of (problem_on c forms page) forms run)
 
 -- any page, read for the kind of moves where it says so, else for that of samples
-abbrev pub filed_of : {C L S D M T : Type 0} → cost.Ghosts C L S → cost.Ghosts D M T → List ℕ → ℕ → Result (List ℕ) Fault
-filed_of samples moves page run = cond (says_moves page) (filed_for moves run page) (filed_for samples run page)
+abbrev pub filed_of : {C L S D M T : Type 0} → cost.Ghosts C L S → Forms L S → cost.Ghosts D M T → Forms M T → List ℕ → ℕ → Result (List ℕ) Fault
+filed_of samples samples_forms moves moves_forms page run = cond (says_moves page) (filed_for moves moves_forms run page) (filed_for samples samples_forms run page)

@@ -1,4 +1,5 @@
 pub mod Words
+pub mod Answering
 pub mod Turns
 pub mod Texts
 pub mod Planned

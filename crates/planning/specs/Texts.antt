@@ -1,6 +1,7 @@
 -- The lines that are printed.
 use Rattle.std.specs.Prelude.{ℕ, List, [], ◌∷◌, ◌++◌, codes, decimal}
 use Rattle.amounts.specs.declared.cost.Cost as cost
+use Rattle.amounts.specs.Forms.{Forms}
 use Rattle.faults.specs.Faults.{refused_line}
 use Rattle.faults.specs.declared.Fault.{Fault}
 use Rattle.contents.specs.declared.answer.Step.{Step}
@@ -9,10 +10,10 @@ use Rattle.contents.specs.Encoding.{form_of}
 abbrev newline : List ℕ
 newline = 10 ∷ []
 
-module _ {C L S : Type 0} (c : cost.Ghosts C L S) where
+module _ {C L S : Type 0} (c : cost.Ghosts C L S) (forms : Forms L S) where
   -- an amount's moves and samples, and what follows
   abbrev pub amount_then : L → List ℕ → List ℕ
-  amount_then a rest = let form = form_of c a in decimal form.moves ++ (codes " " ++ (decimal form.samples ++ rest))
+  amount_then a rest = let form = form_of c forms a in decimal form.moves ++ (codes " " ++ (decimal form.samples ++ rest))
 
   abbrev pub cost_line : L → ℕ → List ℕ
   cost_line cost taken = codes "cost " ++ amount_then cost (codes " taken " ++ (decimal taken ++ newline))

@@ -3,6 +3,7 @@
 
 mod asked;
 mod blanks;
+pub mod error;
 pub mod filed;
 pub mod plan;
 pub mod run;

@@ -2,7 +2,7 @@
 use crate::asked::Asked;
 use crate::filed::filed;
 use crate::plan::plan;
-use anyhow::{anyhow, bail};
+use anyhow::bail;
 use showing::run::page_in;
 use std::io::Write;
 use std::{env, io};
@@ -25,9 +25,7 @@ pub fn run(rt: &HostRuntime) -> anyhow::Result<()> {
     match asked {
         Asked::Plan => rt.print(plan(rt.alloc(), page.as_slice())?)?,
         Asked::File { run } => {
-            let filed = filed(rt.alloc(), page.as_slice(), run)?.map_err(|fault| anyhow!(
-                "{fault}"
-            ))?;
+            let filed = filed(rt.alloc(), page.as_slice(), run)?;
             io::writer(rt).write_all(filed.as_slice())?;
         }
     }

@@ -2,21 +2,21 @@
 ghost use Rattle.std.specs.Prelude.{◌≡◌, ◌++◌, IfOk, OnOk, string_bytes};
 ghost use Rattle.planning.specs.Texts.{cost_line, step_line, route_text, none_text, refused_text};
 
-use amounts::cost::{Cost, LabelForm};
+use amounts::forms::{LabelForm, PageCost};
 use contents::answer::Step;
 use faults::Fault;
 use std::alloc::{AllocError, Global};
 
-fn cost_line<C: Cost>(heap: Global, cost: C::Label, taken: usize) -> Result<String, AllocError>
-    ensures { IfOk result (λ s. string_bytes s ≡ cost_line C.Cost cost taken) }
+fn cost_line<C: PageCost>(heap: Global, cost: C::Label, taken: usize) -> Result<String, AllocError>
+    ensures { IfOk result (λ s. string_bytes s ≡ cost_line C.Cost C.forms cost taken) }
 {
     let LabelForm { moves, samples } = C::shown(cost).unwrap_or_default();
     format!(in heap; "cost {moves} {samples} taken {taken}\n")
 }
 
 /// Puts a step's line behind what is there.
-fn put_step<C: Cost>(out: &mut String, step: Step<C::Label>) -> Result<(), AllocError>
-    ensures { OnOk result (string_bytes out.new ≡ string_bytes out.old ++ step_line C.Cost step) }
+fn put_step<C: PageCost>(out: &mut String, step: Step<C::Label>) -> Result<(), AllocError>
+    ensures { OnOk result (string_bytes out.new ≡ string_bytes out.old ++ step_line C.Cost C.forms step) }
 {
     let Step {
         section,
@@ -29,13 +29,13 @@ fn put_step<C: Cost>(out: &mut String, step: Step<C::Label>) -> Result<(), Alloc
 }
 
 /// A route's lines.
-pub(crate) fn route_text<C: Cost>(
+pub(crate) fn route_text<C: PageCost>(
     heap: Global,
     cost: C::Label,
     taken: usize,
     steps: &[Step<C::Label>],
 ) -> Result<String, AllocError>
-    ensures { IfOk result (λ s. string_bytes s ≡ route_text C.Cost cost taken steps.now) }
+    ensures { IfOk result (λ s. string_bytes s ≡ route_text C.Cost C.forms cost taken steps.now) }
 {
     let mut out = cost_line::<C>(heap, cost, taken)?;
     for step in steps {

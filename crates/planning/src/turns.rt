@@ -1,5 +1,5 @@
 //! A search that goes forward and backward in turn.
-ghost use Rattle.std.specs.Prelude.{◌≡◌, length};
+ghost use Rattle.std.specs.Prelude.{◌≡◌};
 ghost use Rattle.faults.specs.declared.Side.TheVariants.{Forward};
 ghost use Rattle.search.specs.Calls.{problem, standing, step_of};
 ghost use Rattle.planning.specs.Turns.{in_turn, searched_of};
@@ -43,8 +43,8 @@ fn step_in_turn<C: Cost, N: Network<C>, E: Estimates<C>>(
     }
 }
 
-/// Opens a search over a network and estimates, steps it forward and backward in turn until it is ended, and finishes it.
-/// The sheet then is as Route and File ask for it. Turned down, the sheet stands.
+/// Opens a search over a network and estimates, steps it forward and backward in turn until it is ended, and finishes
+/// it. The sheet then is as Route and File ask for it. Turned down, the sheet stands.
 pub fn search_in_turn<C: Cost, N: Network<C> + Drop, E: Estimates<C> + Drop>(
     net: N,
     estimates: E,
@@ -52,8 +52,9 @@ pub fn search_in_turn<C: Cost, N: Network<C> + Drop, E: Estimates<C> + Drop>(
 ) -> Result<Finished<C, N, E>, Fault>
     // The answer and the sheet, on every input.
     ensures exact { record { answer = result; sheet = sheet.new } ≡ searched_of C.Cost N.Network E.Estimates net estimates sheet.old }
-    // What it answers is of least cost; it is turned down only where sheet or estimates do not suit the network.
-    ensures stands { SearchStands C.Cost N.Network E.Estimates net estimates (length sheet.old) result sheet.new }
+    // What it answers is of least cost, and the taken count is that of the accepted steps; it is turned down only where
+    // sheet or estimates do not suit the network.
+    ensures stands { SearchStands C.Cost N.Network E.Estimates net estimates sheet.old result sheet.new }
 {
     let stations = net.stations();
     estimates.count();

@@ -1,3 +1,4 @@
 pub mod Coding
 pub mod Passing
 pub mod Runs
+pub mod Firsts

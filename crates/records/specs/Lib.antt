@@ -1,6 +1,7 @@
 pub mod Bytes
 pub mod Shapes
 pub mod Due
+pub mod DueReasons
 pub mod Values
 pub mod Layout
 pub mod Fields

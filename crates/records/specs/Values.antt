@@ -1,6 +1,6 @@
 -- Which amounts a field may show.
 use Rattle.std.specs.Prelude.{ℕ, ◌^◌, Bool, ◌&&◌, nat_lt}
-use Rattle.amounts.specs.declared.cost.LabelForm.{LabelForm}
+use Rattle.amounts.specs.declared.forms.LabelForm.{LabelForm}
 use Rattle.amounts.specs.Forms.{moves_fit}
 
 -- an estimate or a cost of a kind

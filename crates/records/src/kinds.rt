@@ -6,7 +6,7 @@ ghost use Rattle.std.specs.Prelude.{refl};
 use crate::limits::{Limits, MOST_SECTIONS, MOST_STATIONS, MOST_STEPS};
 use crate::numbers::{label_bytes, label_of, section_bytes, section_of};
 use crate::record::Record;
-use amounts::cost::{LabelForm, SectionForm};
+use amounts::forms::{LabelForm, SectionForm};
 
 /// The body of an S record.
 #[derive(Clone, Copy)]

@@ -3,7 +3,8 @@ ghost use Rattle.std.specs.Prelude.{◌≡◌};
 ghost use Rattle.amounts.specs.Forms.{moves_fit};
 ghost use Rattle.records.specs.Values.{label_fits};
 
-use amounts::cost::{Cost, LabelForm};
+use amounts::cost::Cost;
+use amounts::forms::LabelForm;
 use amounts::kinds::Samples;
 use amounts::limits::SAMPLES;
 

@@ -3,7 +3,7 @@ ghost use Rattle.std.specs.Prelude.{◌≡◌, ◌++◌};
 ghost use Rattle.amounts.specs.Forms.{section_form, label_form};
 ghost use Rattle.records.specs.Bytes.{number_at, bytes_of};
 
-use amounts::cost::{LabelForm, SectionForm};
+use amounts::forms::{LabelForm, SectionForm};
 
 /// A section's amount: moves in two bytes, samples in four.
 pub(crate) fn section_of(bytes: [u8; 6]) -> SectionForm

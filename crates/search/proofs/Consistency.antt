@@ -1,6 +1,6 @@
 -- What Open asks of the estimates: that they are consistent, and else which section breaks them first.
-use Rattle.std.proofs.Common.{◌≡◌, ℕ, zero, suc, ◌+◌, ◌<◌, ◌≤◌, Bool, true, false, true≢false, cond, not, ◌&&◌, List, [], ◌∷◌, length, Some, None, Option, ◌==◌, nat_lt, refl, sym, ap, subst, ◌∙◌, arith}
-use Rattle.std.proofs.lemmas.Bool.{ltb-false}
+use Rattle.std.proofs.Common.{◌≡◌, ℕ, zero, suc, ◌+◌, ◌<◌, ◌≤◌, Bool, true, false, true≢false, cond, not, ◌&&◌, List, [], ◌∷◌, length, Some, None, Option, option_map, inl, ◌==◌, nat_lt, refl, sym, ap, subst, ◌∙◌, arith}
+use Rattle.std.proofs.lemmas.Bool.{ltb-true, ltb-false, eqb-true, eqb-false}
 use Rattle.std.proofs.lemmas.Option.{none-some}
 use Rattle.std.specs.List.{slice_get}
 use Rattle.amounts.specs.Amount.{Le}
@@ -9,14 +9,17 @@ use Rattle.faults.specs.declared.Side.TheVariants.{Forward, Backward}
 use Rattle.faults.specs.Faults.{number_of}
 use Rattle.faults.specs.declared.Refusal.{Refusal}
 use Rattle.faults.specs.declared.Refusal.TheVariants.{Inconsistent, TooFewRows, EstimateCount}
+use Rattle.faults.specs.declared.Layer.TheVariants as layer
+use Rattle.faults.specs.Reasons.{Reasons, refused_if, else_accepted}
+use Rattle.faults.proofs.InOrder.{named, passed}
 use Rattle.networks.specs.declared.section.Section.{Section}
 use Rattle.networks.specs.Nets.{tail, head}
 use Rattle.optimality.specs.Problems.{Problem, Fair, Consistent, guess}
-use Rattle.optimality.specs.Keys.{breaks, difference, at_most}
+use Rattle.optimality.specs.Keys.{breaks, computed_difference, at_most}
 use Rattle.optimality.proofs.Exact.{difference_is}
 use Rattle.optimality.proofs.Sides.{sides_differ}
-use Rattle.search.specs.Calls.{first_broken, unfit}
-use Rattle.search.specs.Claims.{FirstBreak}
+use Rattle.search.specs.Calls.{search_fault, first_broken, unfit}
+use Rattle.search.specs.Rules.{FirstBreak, OpenReason}
 
 abbrev number_in : Option Refusal → ℕ
 number_in None = 0
@@ -27,11 +30,11 @@ module _ {C L S : Type 0} (p : Problem C L S) (fair : Fair p) where
   Near side s = Le p.kind.ops (p.kind.ops.minus (guess p side (tail side s)) (guess p side (head side s))) (p.kind.worth s.amount)
 
   -- the difference that is computed is the difference
-  drop_is : (side : Side) (s : Section S) → difference p.kind (guess p side (tail side s)) (guess p side (head side s)) ≡ p.kind.ops.minus (guess p side (tail side s)) (guess p side (head side s))
+  drop_is : (side : Side) (s : Section S) → computed_difference p.kind (guess p side (tail side s)) (guess p side (head side s)) ≡ p.kind.ops.minus (guess p side (tail side s)) (guess p side (head side s))
   drop_is side s = difference_is p.kind _ _ (omega (arith, fair.small side (tail side s), fair.small side (head side s)))
 
   abbrev computed : Side → Section S → Bool
-  computed side s = at_most p.kind (difference p.kind (guess p side (tail side s)) (guess p side (head side s))) (p.kind.worth s.amount)
+  computed side s = at_most p.kind (computed_difference p.kind (guess p side (tail side s)) (guess p side (head side s))) (p.kind.worth s.amount)
 
   computed_is : (side : Side) (s : Section S) (b : Bool) → p.kind.ops.leb (p.kind.ops.minus (guess p side (tail side s)) (guess p side (head side s))) (p.kind.worth s.amount) ≡ b → computed side s ≡ b
   computed_is side s b e = ap (λ d. p.kind.ops.leb d (p.kind.worth s.amount)) (drop_is side s) ∙ e
@@ -112,6 +115,10 @@ module _ {C L S : Type 0} (p : Problem C L S) (fair : Fair p) where
           before rest zero s other lt is = let same : x ≡ s = cc in subst (λ s. breaks_it other s ≡ false) same (by_sides (λ side. breaks_it side x ≡ false) e q other)
           before rest (suc j) s other lt is = rest j s other (omega arith) is
 
+  -- where none is broken the estimates are consistent
+  all_near : first_broken p 0 p.net.sections ≡ None → Consistent p
+  all_near h side k s arc = fine side s arc.1 (none_broken 0 p.net.sections h k s side arc.0)
+
   -- why no search can be opened -------------------------------------------------------------------
 
   abbrev asked : Bool → Bool → ℕ → Option Refusal → Option Refusal
@@ -132,8 +139,8 @@ module _ {C L S : Type 0} (p : Problem C L S) (fair : Fair p) where
   unfit_room rows h = ltb-false _ _ ((asked_none (nat_lt rows p.net.stations) (length p.estimates == p.net.stations) rows (first_broken p 0 p.net.sections) h).0)
 
   pub unfit_consistent : (rows : ℕ) → unfit p rows ≡ None → Consistent p
-  unfit_consistent rows h side k s arc =
-      fine side s arc.1 (none_broken 0 p.net.sections ((asked_none (nat_lt rows p.net.stations) (length p.estimates == p.net.stations) rows (first_broken p 0 p.net.sections) h).1) k s side arc.0)
+  unfit_consistent rows h =
+      all_near ((asked_none (nat_lt rows p.net.stations) (length p.estimates == p.net.stations) rows (first_broken p 0 p.net.sections) h).1)
 
   first_break : (i : ℕ) (side : Side) → Broke p.net.sections i side → FirstBreak p i side
   first_break i side broke =
@@ -146,9 +153,61 @@ module _ {C L S : Type 0} (p : Problem C L S) (fair : Fair p) where
       one_there : {s t : Section S} → slice_get p.net.sections i ≡ Some s → slice_get p.net.sections i ≡ Some t → s ≡ t
       one_there e f = cc
 
+  breaks_first : (k : ℕ) (side : Side) → first_broken p 0 p.net.sections ≡ Some (Inconsistent k side) → FirstBreak p k side
+  breaks_first k side h =
+      let (i, at, broke) = some_broken 0 p.net.sections k side h in
+      let same : i ≡ k = omega (arith, at) in
+      subst (λ k. FirstBreak p k side) same (first_break i side broke)
+
   -- refused for the estimates, they break at that section first
   pub unfit_broken : (rows k : ℕ) (side : Side) → unfit p rows ≡ Some (Inconsistent k side) → FirstBreak p k side
   unfit_broken rows k side h =
-      let (i, at, broke) = some_broken 0 p.net.sections k side (asked_some (nat_lt rows p.net.stations) (length p.estimates == p.net.stations) rows (first_broken p 0 p.net.sections) k side h) in
-      let same : i ≡ k = omega (arith, at) in
-      subst (λ k. FirstBreak p k side) same (first_break i side broke)
+      breaks_first k side (asked_some (nat_lt rows p.net.stations) (length p.estimates == p.net.stations) rows (first_broken p 0 p.net.sections) k side h)
+
+  -- the reasons, in their order -------------------------------------------------------------------
+
+  -- what is found of the sections is that one breaks the estimates
+  break_named : (k : ℕ) (ss : List (Section S)) (r : Refusal) → first_broken p k ss ≡ Some r → (n : ℕ) × (side : Side) × (r ≡ Inconsistent n side)
+  break_named k [] r h = absurd (none-some _ h)
+  break_named k (x ∷ xs) r h = go (breaks_it Forward x) (breaks_it Backward x) h (break_named (k + 1) xs r)
+    where
+      go : (f b : Bool) → look f b k (first_broken p (k + 1) xs) ≡ Some r → (first_broken p (k + 1) xs ≡ Some r → (n : ℕ) × (side : Side) × (r ≡ Inconsistent n side)) → (n : ℕ) × (side : Side) × (r ≡ Inconsistent n side)
+      go true b h later = (k, Forward, cc)
+      go false true h later = (k, Backward, cc)
+      go false false h later = later h
+
+  module _ (rows : ℕ) where
+    abbrev Sections : ℕ → Side → Reasons
+    Sections k side = refused_if (FirstBreak p k side) (Inconsistent k side) else_accepted
+
+    abbrev Estimates : ℕ → Side → Reasons
+    Estimates k side = refused_if (length p.estimates ≡ p.net.stations → ⊥) (EstimateCount (length p.estimates)) (Sections k side)
+
+    enough : nat_lt rows p.net.stations ≡ false → rows < p.net.stations → ⊥
+    enough e few = let room = ltb-false _ _ e in absurd (omega arith)
+
+    abbrev Miscounted : Type 0
+    Miscounted = length p.estimates ≡ p.net.stations → ⊥
+
+    counted : length p.estimates ≡ p.net.stations → Miscounted → ⊥
+    counted same differ = differ same
+
+    miscounted : (length p.estimates == p.net.stations) ≡ false → Miscounted
+    miscounted e = eqb-false _ _ e
+
+    by_sections : (rows < p.net.stations → ⊥) → length p.estimates ≡ p.net.stations → (o : Option Refusal) → first_broken p 0 p.net.sections ≡ o → OpenReason p rows (option_map search_fault o)
+    by_sections room same None h = λ k side. (room, (counted same, ((λ broke. let (s, arc, far) = broke.breaks in far (all_near h side k s arc)), tt)))
+    by_sections room same (Some r) h =
+        let (k, side, is) = break_named 0 p.net.sections r h in
+        let here : FirstBreak p k side = breaks_first k side (h ∙ ap (λ r. Some r) is) in
+        (k, side, passed layer.Search (TooFewRows rows) (Estimates k side) (Some (search_fault r)) room (passed layer.Search (EstimateCount (length p.estimates)) (Sections k side) (Some (search_fault r)) (counted same) (inl (here, ap search_fault is))))
+
+    -- an Open is turned down by the first reason that is so
+    pub open_reasoned : OpenReason p rows (option_map search_fault (unfit p rows))
+    open_reasoned = go (nat_lt rows p.net.stations) (length p.estimates == p.net.stations) refl refl
+      where
+        go : (few same : Bool) → nat_lt rows p.net.stations ≡ few → (length p.estimates == p.net.stations) ≡ same → OpenReason p rows (option_map search_fault (asked few same rows (first_broken p 0 p.net.sections)))
+        go true same e k = (0, Forward, named layer.Search (TooFewRows rows) (Estimates 0 Forward) (ltb-true _ _ e))
+        go false true e k = by_sections (enough e) (eqb-true _ _ k) (first_broken p 0 p.net.sections) refl
+        go false false e k =
+            (0, Forward, passed layer.Search (TooFewRows rows) (Estimates 0 Forward) (Some (search_fault (EstimateCount (length p.estimates)))) (enough e) (named layer.Search (EstimateCount (length p.estimates)) (Sections 0 Forward) (miscounted k)))

@@ -7,4 +7,5 @@ pub mod Runs
 pub mod Consistency
 pub mod Main
 pub mod Ruling
+pub mod Reasoned
 pub mod Public

@@ -11,7 +11,8 @@ use Rattle.optimality.specs.Search.{front, ended, taking}
 use Rattle.optimality.specs.Published.{TakenByRule}
 use Rattle.optimality.proofs.Rule.{takes_rule}
 use Rattle.search.specs.Calls.{Stepped, own, short, foreign, next, stepped_to, step_by, step}
-use Rattle.search.specs.Claims.{one_if, StepRule}
+use Rattle.search.specs.Claims.{one_if}
+use Rattle.search.specs.Rules.{StepRule}
 use Rattle.search.proofs.Owned.{own_over}
 
 -- what is refused is not accepted
@@ -23,13 +24,14 @@ module _ {C L S : Type 0} (p : Problem C L S) (fair : Fair p) (st : State C L S)
   abbrev Ruled : Stepped C L S → Type 0
   Ruled r = r.answer ≡ Ok tt → StepRule p side st r.state
 
-  own_long : p.net.stations ≤ length st.rows → length ((own p st).rows) ≡ p.net.stations
+  -- a search's own rows are as many as the stations
+  pub own_long : p.net.stations ≤ length st.rows → length ((own p st).rows) ≡ p.net.stations
   own_long room = omega (arith, length-take p.net.stations st.rows)
 
   ruled_front : p.net.stations ≤ length st.rows → (f : Front L) → front p (own p st) side ≡ Some f → (o : Option (State C L S)) → taking p side f (own p st) ≡ o → Ruled (stepped_to p st o)
   ruled_front room f here None e ok = absurd (not_ok _ ok)
   ruled_front room f here (Some after) e ok =
-      let rule = takes_rule p fair side f (own p st) after (own_long room) here e in
+      let rule = takes_rule p fair side f (own p st) (own_long room) here after e in
       let long : length after.rows ≡ p.net.stations = rule.rows ∙ own_long room in
       record {
         taken_front = f;

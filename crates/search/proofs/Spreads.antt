@@ -9,7 +9,7 @@ use Rattle.faults.specs.declared.Side.{Side}
 use Rattle.networks.specs.declared.section.Section.{Section}
 use Rattle.networks.specs.Nets.{Net, numbers, starts, starters, head}
 use Rattle.networks.proofs.Numbers.{drop_nth, past_nth}
-use Rattle.optimality.specs.Keys.{sum, fits_row, improves}
+use Rattle.optimality.specs.Keys.{computed_sum, fits_row, improves}
 use Rattle.optimality.specs.Search.{Spread, mark_at, along, spread}
 
 -- at most as many pass as there are
@@ -51,7 +51,7 @@ module _ {C L S : Type 0} (c : cost.Ghosts C L S) (net : Net S) (side : Side) (l
 -- A light label: no section leads to one that a row does not hold.
 module _ {C L S : Type 0} (c : cost.Ghosts C L S) (laws : Laws c.ops) (net : Net S) (side : Side) (label : L) (light : c.ops.size label + 2 ^ 32 ≤ 2 ^ 44) (small : (k : ℕ) (s : Section S) → slice_get net.sections k ≡ Some s → c.ops.size (c.worth s.amount) < 2 ^ 32) where
   -- what is computed is the sum, or zero
-  light_sum : (a : L) → c.ops.size a < 2 ^ 32 → c.ops.size (sum c label a) < 2 ^ 44
+  light_sum : (a : L) → c.ops.size a < 2 ^ 32 → c.ops.size (computed_sum c label a) < 2 ^ 44
   light_sum a h = go (fits (c.ops.size label) (c.ops.size a))
     where
       go : (b : Bool) → c.ops.size (cond b (c.ops.plus label a) c.ops.zero) < 2 ^ 44
@@ -68,7 +68,7 @@ module _ {C L S : Type 0} (c : cost.Ghosts C L S) (laws : Laws c.ops) (net : Net
 
   light_along : (k : ℕ) (so : Option (Section S)) → slice_get net.sections k ≡ so → (sp : Spread C L S) → is_some (along c side label k so sp) ≡ true
   light_along k None is sp = refl
-  light_along k (Some s) is sp = gives_some s.shut (improves c (sum c label (c.worth s.amount)) (mark_at c sp.rows side (head side s))) (fits_row c (sum c label (c.worth s.amount))) _ sp (lt-ltb _ _ (light_sum (c.worth s.amount) (small k s is)))
+  light_along k (Some s) is sp = gives_some s.shut (improves c (computed_sum c label (c.worth s.amount)) (mark_at c sp.rows side (head side s))) (fits_row c (computed_sum c label (c.worth s.amount))) _ sp (lt-ltb _ _ (light_sum (c.worth s.amount) (small k s is)))
 
   then_some : {X Y : Type 0} (f : X → Option Y) (o : Option X) → is_some o ≡ true → ((x : X) → is_some (f x) ≡ true) → is_some (option_and_then f o) ≡ true
   then_some f None h all = absurd (true≢false (sym h))

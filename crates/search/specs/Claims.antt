@@ -5,37 +5,37 @@
 -- * Bounds is answered; twice the cost of every route is at least its floor, and some route costs its ceiling;
 -- * over whatever calls come later the floor never falls, and the ceiling never rises;
 -- * a Finish that is accepted answers that there is no route exactly if there is none; else its cost is that of a route,
---   and every route costs at least as much;
+--   and every route costs at least as much. What it tells is the search's: the taken count, and as the cost the ceiling.
+--   All else that stood before it stands after it;
 -- * no station is taken twice, both ends together; the taken count is that of the accepted steps, and below the number of
 --   stations; and only an ended search turns a step down.
-use Rattle.std.specs.Prelude.{◌≡◌, ℕ, ◌+◌, ◌<◌, true, List, [], ◌∷◌, ◌++◌, length, drop, is_some, Some, None, Option, Ok, Err, Result, ◌⊎◌, ◌↔◌}
+use Rattle.std.specs.Prelude.{◌≡◌, ℕ, ◌+◌, ◌<◌, true, List, [], ◌∷◌, ◌++◌, length, is_some, Some, None, Option, Ok, Err, Result, ◌⊎◌, ◌↔◌}
 use Rattle.std.specs.List.{slice_get}
 use Rattle.amounts.specs.Amount.{Le}
 use Rattle.amounts.specs.declared.cost.Cost as cost
 use Rattle.networks.specs.declared.network.Network as network
 use Rattle.networks.specs.declared.estimates.Estimates as estimates
 use Rattle.faults.specs.declared.Side.{Side}
-use Rattle.faults.specs.declared.Side.TheVariants.{Forward, Backward}
 use Rattle.faults.specs.declared.Fault.{Fault}
 use Rattle.faults.specs.declared.Refusal.TheVariants.{Ended, Inconsistent}
-use Rattle.networks.specs.declared.section.Section.{Section}
-use Rattle.networks.specs.Nets.{tail, head}
 use Rattle.networks.specs.Routes.{Route}
 use Rattle.optimality.specs.declared.sheet.Row.{Row}
-use Rattle.optimality.specs.declared.sheet.Front.{Front}
 use Rattle.optimality.specs.declared.sheet.Ceiling.TheVariants.{Absent, Met}
 use Rattle.optimality.specs.Sheets.{is_closed, State}
-use Rattle.optimality.specs.Problems.{Problem, Arc, Consistent, guess, route_cost}
+use Rattle.optimality.specs.Problems.{Problem, Consistent, route_cost}
 use Rattle.optimality.specs.Keys.{within}
 use Rattle.optimality.specs.Search.{mark_in}
-use Rattle.optimality.specs.Published.{amount_of, TakenByRule}
+use Rattle.optimality.specs.Published.{amount_of}
 use Rattle.search.specs.declared.running.Bounds.{Bounds}
 use Rattle.search.specs.declared.running.Running.{Running}
 use Rattle.search.specs.declared.running.Unopened.{Unopened}
+use Rattle.search.specs.declared.running.Found.{Found}
+use Rattle.search.specs.declared.running.NoRoute.{NoRoute as NoneFound}
 use Rattle.search.specs.declared.running.Finished.{Finished}
 use Rattle.search.specs.declared.running.Finished.TheVariants as finished
 use Rattle.search.specs.declared.running.Unfinished.{Unfinished}
-use Rattle.search.specs.Calls.{posed, problem, standing, begun, unfit, own, step, bounds, unfinished, turned_down, search_fault}
+use Rattle.search.specs.Rules.{FirstBreak, FoundKeeps, NoneKeeps}
+use Rattle.search.specs.Calls.{posed, problem, standing, begun, unfit, step, bounds, unfinished, turned_down, search_fault}
 
 -- Lists of calls ---------------------------------------------------------------------------------
 
@@ -127,18 +127,6 @@ module _ {C L S : Type 0} (p : Problem C L S) where
   abbrev pub Floor : Option L → Type 0
   Floor x = (ks : List ℕ) → Route p.net ks → AtMost x (Some (p.kind.ops.plus (route_cost p ks) (route_cost p ks)))
 
-  -- Estimates ------------------------------------------------------------------------------------
-
-  -- the side's estimate falls by more than its amount along section k, which is open
-  abbrev pub Breaks : ℕ → Side → Type 0
-  Breaks k side = (s : Section S) × Arc p k s × (Le p.kind.ops (p.kind.ops.minus (guess p side (tail side s)) (guess p side (head side s))) (p.kind.worth s.amount) → ⊥)
-
-  -- the first section along which one does, and the first side, forward before backward
-  pub record FirstBreak (k : ℕ) (side : Side) : Type 0 where
-    pub breaks : Breaks k side
-    pub earlier : (j : ℕ) (s : Side) → j < k → Breaks j s → ⊥
-    pub forward_first : side ≡ Backward → Breaks k Forward → ⊥
-
   -- What is claimed --------------------------------------------------------------------------------
 
   -- the step is accepted, and takes one station, which neither side had closed
@@ -178,12 +166,6 @@ module _ {C L S : Type 0} (p : Problem C L S) where
 
 -- What the contract of each call says of it ------------------------------------------------------
 
--- An accepted step takes the side's front by the rule, on the rows of the stations; those past them stay.
-pub record StepRule {C L S : Type 0} (p : Problem C L S) (side : Side) (before after : State C L S) : Type 0 where
-  pub taken_front : Front L
-  pub rule : TakenByRule p side taken_front (own p before) (own p after)
-  pub past : drop p.net.stations after.rows ≡ drop p.net.stations before.rows
-
 module _ {C N E L S : Type 0} (c : cost.Ghosts C L S) (n : network.Ghosts N C L S) (e : estimates.Ghosts E C L S) where
   -- the search has its sheet to itself, by these calls
   abbrev pub HasItsSheet : List Call → Running C N E L S → List (Row C L S) → Type 0
@@ -206,14 +188,27 @@ module _ {C N E L S : Type 0} (c : cost.Ghosts C L S) (n : network.Ghosts N C L 
     pub after_it : AllStands (calls ++ (step_by_side side ∷ [])) t after
     pub only_ended : (f : Fault) → answer ≡ Err f → unfinished (problem c n e s) (standing s sheet) ≡ None
 
-  -- Bounds is answered: twice every route's cost is at least the floor, and some route costs the ceiling.
+  -- Bounds is answered, and all stands still: twice every route's cost is at least the floor, and some route costs the
+  -- ceiling.
   abbrev pub BoundsStand : List Call → Running C N E L S → List (Row C L S) → Result (Bounds L) Fault → Type 0
   BoundsStand calls s sheet (Ok b) = Floor (problem c n e s) b.floor × ((a : L) (m : ℕ) → b.ceiling ≡ Met a m → Reachable (problem c n e s) a) × AllStands (calls ++ (ask_bounds ∷ [])) s sheet
   BoundsStand calls s sheet (Err f) = ⊥
 
-  -- Accepted, it answers that there is no route exactly if there is none; else its cost is that of a route, and every
-  -- route costs at least as much. Turned down, the search goes on.
+  -- A route was found, and what stood before stands: some route costs what is told, and every route at least as much.
+  pub record FoundStands (calls : List Call) (s : Running C N E L S) (sheet : List (Row C L S)) (r : Found C N E L S) : Type 0 where
+    pub before : AllStands calls s sheet
+    pub told : FoundKeeps s r
+    pub reachable : Reachable (problem c n e s) r.cost
+    pub least : Least (problem c n e s) r.cost
+
+  -- No route was found, and what stood before stands: there is none.
+  pub record NoneStands (calls : List Call) (s : Running C N E L S) (sheet : List (Row C L S)) (r : NoneFound C N E L S) : Type 0 where
+    pub before : AllStands calls s sheet
+    pub told : NoneKeeps s r
+    pub no_route : NoRoute (problem c n e s)
+
+  -- Accepted, all stands still, and the answer is right. Turned down, the search goes on.
   abbrev pub FinishStands : List Call → Running C N E L S → List (Row C L S) → Result (Finished C N E L S) (Unfinished C N E L S) → Type 0
-  FinishStands calls s sheet (Ok (finished.NoRoute r)) = NoRoute (problem c n e s)
-  FinishStands calls s sheet (Ok (finished.Found r)) = Reachable (problem c n e s) r.cost × Least (problem c n e s) r.cost
+  FinishStands calls s sheet (Ok (finished.Found r)) = FoundStands calls s sheet r
+  FinishStands calls s sheet (Ok (finished.NoRoute r)) = NoneStands calls s sheet r
   FinishStands calls s sheet (Err back) = AllStands (calls ++ (try_finish ∷ [])) back.search sheet

@@ -1,3 +1,4 @@
 pub mod Replay
 pub mod Calls
+pub mod Rules
 pub mod Claims

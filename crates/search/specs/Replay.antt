@@ -8,11 +8,11 @@ use Rattle.networks.specs.Nets.{Net, starters, head}
 use Rattle.optimality.specs.declared.sheet.Mark.{Mark}
 use Rattle.optimality.specs.declared.sheet.Row.{Row}
 use Rattle.optimality.specs.Search.{mark_at}
-use Rattle.optimality.specs.Keys.{opened_mark, sum, fits_row, improves}
+use Rattle.optimality.specs.Keys.{opened_mark, computed_sum, fits_row, improves}
 
 module _ {C L S : Type 0} (c : cost.Ghosts C L S) (side : Side) (label : L) where
   abbrev pub candidate : Section S → L
-  candidate s = sum c label (c.worth s.amount)
+  candidate s = computed_sum c label (c.worth s.amount)
 
   -- the mark at station v, after section k was gone along
   abbrev pub mark_by : ℕ → ℕ → Option (Section S) → Option (Mark L) → Option (Mark L)

@@ -61,7 +61,7 @@ fn mark_after<C: Cost, N: Network<C>>(
 }
 
 /// Whether section `number`, the k-th of the station that is taken, would get a label that a row does not hold.
-pub fn too_large<C: Cost, N: Network<C>>(
+pub(crate) fn too_large<C: Cost, N: Network<C>>(
     rows: &[Row<C>],
     net: &N,
     side: Side,

@@ -11,7 +11,11 @@ use networks::estimates::Estimates;
 use optimality::sheet::{Ceiling, Front, Mark, Row};
 
 /// A side's estimate at a station; zero beyond the last one.
-pub fn estimate<C: Cost, E: Estimates<C>>(estimates: &E, side: Side, station: usize) -> C::Label
+pub(crate) fn estimate<C: Cost, E: Estimates<C>>(
+    estimates: &E,
+    side: Side,
+    station: usize,
+) -> C::Label
     ensures { result ≡ estimate C.Cost (E.Estimates.meaning estimates.now) side station }
 {
     let Some(pair) = estimates.pair(station) else {
@@ -79,7 +83,7 @@ fn nearer<C: Cost>(
 }
 
 /// A side's open station of least key, and of lowest number among those, of so many.
-pub fn least<C: Cost, E: Estimates<C>>(
+pub(crate) fn least<C: Cost, E: Estimates<C>>(
     rows: &[Row<C>],
     estimates: &E,
     side: Side,
@@ -96,7 +100,7 @@ pub fn least<C: Cost, E: Estimates<C>>(
 }
 
 /// Whether one bound is at most another; what is absent counts as above every amount.
-pub fn within<C: Cost>(x: Option<C::Label>, y: Option<C::Label>) -> bool
+pub(crate) fn within<C: Cost>(x: Option<C::Label>, y: Option<C::Label>) -> bool
     ensures { result ≡ within C.Cost x y }
 {
     let Some(b) = y else {
@@ -109,14 +113,14 @@ pub fn within<C: Cost>(x: Option<C::Label>, y: Option<C::Label>) -> bool
 }
 
 /// The smaller of two bounds.
-pub fn smaller<C: Cost>(x: Option<C::Label>, y: Option<C::Label>) -> Option<C::Label>
+pub(crate) fn smaller<C: Cost>(x: Option<C::Label>, y: Option<C::Label>) -> Option<C::Label>
     ensures { result ≡ smaller C.Cost x y }
 {
     if within::<C>(x, y) { x } else { y }
 }
 
 /// The sum of the least keys; absent where a side has no open station.
-pub fn key_sum<C: Cost>(
+pub(crate) fn key_sum<C: Cost>(
     forward: Option<Front<C::Label>>,
     backward: Option<Front<C::Label>>,
 ) -> Option<C::Label>
@@ -126,7 +130,7 @@ pub fn key_sum<C: Cost>(
 }
 
 /// Twice the ceiling.
-pub fn twice<C: Cost>(ceiling: Ceiling<C::Label>) -> Option<C::Label>
+pub(crate) fn twice<C: Cost>(ceiling: Ceiling<C::Label>) -> Option<C::Label>
     ensures { result ≡ twice C.Cost ceiling }
 {
     match ceiling {

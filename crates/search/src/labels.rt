@@ -8,14 +8,18 @@ use faults::Side;
 use optimality::sheet::{Ceiling, Mark, Row};
 
 /// Whether a row holds the label.
-pub fn fits_row<C: Cost>(label: C::Label) -> bool
+pub(crate) fn fits_row<C: Cost>(label: C::Label) -> bool
     ensures { result ≡ fits_row C.Cost label }
 {
     C::size(label) < 1 << 44
 }
 
 /// What a side reads at a station.
-pub fn mark_at<C: Cost>(rows: &[Row<C>], side: Side, station: usize) -> Option<Mark<C::Label>>
+pub(crate) fn mark_at<C: Cost>(
+    rows: &[Row<C>],
+    side: Side,
+    station: usize,
+) -> Option<Mark<C::Label>>
     ensures { result ≡ mark_at C.Cost rows.now side station }
 {
     let mark = rows.get(station)?.mark(side)?;
@@ -46,7 +50,7 @@ fn lowered<C: Cost>(cost: C::Label, station: usize, ceiling: Ceiling<C::Label>) 
 }
 
 /// The ceiling, once the station got a label on one side, where the other side has the mark.
-pub fn met<C: Cost>(
+pub(crate) fn met<C: Cost>(
     label: C::Label,
     station: usize,
     there: Option<Mark<C::Label>>,
@@ -61,7 +65,7 @@ pub fn met<C: Cost>(
 }
 
 /// Whether a candidate becomes the label where a side has the mark.
-pub fn improves<C: Cost>(candidate: C::Label, mark: Option<Mark<C::Label>>) -> bool
+pub(crate) fn improves<C: Cost>(candidate: C::Label, mark: Option<Mark<C::Label>>) -> bool
     ensures { result ≡ improves C.Cost candidate mark }
 {
     match mark {

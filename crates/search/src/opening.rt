@@ -53,7 +53,7 @@ fn first_broken<C: Cost, N: Network<C>, E: Estimates<C>>(net: &N, estimates: &E)
 }
 
 /// Why no search can be opened over so many rows.
-pub fn unfit<C: Cost, N: Network<C>, E: Estimates<C>>(
+pub(crate) fn unfit<C: Cost, N: Network<C>, E: Estimates<C>>(
     net: &N,
     estimates: &E,
     rows: usize,
@@ -94,7 +94,7 @@ fn first_row<C: Cost, N: Network<C>>(net: &N, station: usize) -> Row<C>
 
 /// Writes the first rows.
 #[tactic(auto, using(crate::proofs::Opened::next_row))]
-pub fn write_first<C: Cost, N: Network<C>>(own: &mut [Row<C>], net: &N)
+pub(crate) fn write_first<C: Cost, N: Network<C>>(own: &mut [Row<C>], net: &N)
     ensures { own.new ≡ map (first_row C.Cost (N.Network.meaning net.now)) (range_with_len 0 (length own.old)) }
 {
     for station in 0..own.len() {
@@ -103,7 +103,7 @@ pub fn write_first<C: Cost, N: Network<C>>(own: &mut [Row<C>], net: &N)
 }
 
 /// The first ceiling: zero at the launcher, where launcher and trap are one.
-pub fn first_ceiling<C: Cost>(launcher: usize, trap: usize) -> Ceiling<C::Label>
+pub(crate) fn first_ceiling<C: Cost>(launcher: usize, trap: usize) -> Ceiling<C::Label>
     ensures { result ≡ cond (launcher == trap) (Met C.Cost.ops.zero launcher) Absent }
 {
     if launcher != trap {

@@ -1,12 +1,16 @@
 //! A search: running, found, or without a route.
-ghost use Rattle.std.specs.Prelude.{◌≡◌, ◌^◌, ◌<◌, ◌≤◌, length, List, Some, true, cond, None, is_some, option_map, IfSome, OnOk};
+ghost use Rattle.std.specs.Prelude.{◌≡◌, ◌^◌, ◌<◌, ◌≤◌, length, List, Some, true, cond, None, is_some, option_map, IfOk, IfSome, OnOk};
+ghost use Rattle.std.specs.Result.{result_err};
 ghost use Rattle.optimality.specs.Search.{front, least_sum, floor, ended, gone_through, after};
 ghost use Rattle.optimality.specs.Keys.{smaller};
 ghost use Rattle.networks.specs.Nets.{InRange, starters};
 ghost use Rattle.faults.specs.declared.Refusal.TheVariants.{ForeignSheet};
 ghost use Rattle.faults.specs.declared.Side.TheVariants.{Forward, Backward};
+ghost use Rattle.faults.specs.declared.Layer.TheVariants.{Search};
+ghost use Rattle.faults.specs.Reasons.{FirstReason};
 ghost use Rattle.optimality.specs.Problems.{Fair};
-ghost use Rattle.search.specs.Claims.{Call, StepRule, HasItsSheet, OpenStands, StepStands, BoundsStand, FinishStands};
+ghost use Rattle.search.specs.Claims.{Call, HasItsSheet, OpenStands, StepStands, BoundsStand, FinishStands};
+ghost use Rattle.search.specs.Rules.{open_fault, OpenReason, StepRule, step_reasons, BoundsRule, bounds_reasons, finish_fault, FinishRule, finish_reasons};
 ghost use Rattle.search.specs.Calls.{posed, problem, standing, Ready, unfinished, open_of, step_of, bounds_of, finish_of, search_fault};
 
 use crate::dry::too_large;
@@ -130,7 +134,7 @@ impl<C: Cost, N: Network<C>, E: Estimates<C>> Running<C, N, E> {
 
     /// Whether rows hold every label that taking the front would write.
     fn fits(&self, own: &[Row<C>], side: Side, front: &Front<C::Label>) -> bool
-        requires range { InRange C.Cost.parts (N.Network.meaning self.now.net) }
+        requires range { InRange C.Cost.section_range (N.Network.meaning self.now.net) }
         requires long { (N.Network.meaning self.now.net).stations ≤ length own.now }
         requires inside { front.now.station < length own.now }
         requires held { C.Cost.ops.size front.now.label < 2 ^ 44 }
@@ -152,7 +156,7 @@ impl<C: Cost, N: Network<C>, E: Estimates<C>> Running<C, N, E> {
 
     /// Closes the front, and goes along its sections.
     fn take(&mut self, own: &mut [Row<C>], side: Side, front: Front<C::Label>)
-        requires range { InRange C.Cost.parts (N.Network.meaning self.old.net) }
+        requires range { InRange C.Cost.section_range (N.Network.meaning self.old.net) }
         requires long { (N.Network.meaning self.old.net).stations ≤ length own.old }
         requires inside { front.station < length own.old }
         requires few { self.old.taken < 4096 }
@@ -293,6 +297,8 @@ impl<C: Cost, N: Network<C>, E: Estimates<C>> Running<C, N, E> {
         ensures exact { record { answer = result; sheet = sheet.new } ≡ open_of C.Cost N.Network E.Estimates net estimates sheet.old }
         // Accepted, the estimates are consistent and the search has its sheet to itself; turned down by 7, they break where it says.
         ensures stands { OpenStands C.Cost N.Network E.Estimates net estimates result sheet.new }
+        // It is turned down for the first of its reasons that is so, and accepted where none is.
+        ensures reasons { OpenReason (posed C.Cost N.Network E.Estimates net estimates) (length sheet.old) (open_fault result) }
     {
         promised::<C, N, E>(&net, &estimates);
         Running::begin(net, estimates, sheet)
@@ -302,6 +308,7 @@ impl<C: Cost, N: Network<C>, E: Estimates<C>> Running<C, N, E> {
     fn advance(&mut self, sheet: &mut [Row<C>], side: Side) -> Result<(), Fault>
         ensures exact { record { answer = result; search = self.new; sheet = sheet.new } ≡ step_of C.Cost N.Network E.Estimates side self.old sheet.old }
         ensures rule { OnOk result (StepRule (problem C.Cost N.Network E.Estimates self.old) side (standing self.old sheet.old) (standing self.new sheet.new)) }
+        ensures reasons { FirstReason Search (step_reasons (problem C.Cost N.Network E.Estimates self.old) (standing self.old sheet.old) side) (result_err result) }
         ensures stands { (calls : List Call) → HasItsSheet C.Cost N.Network E.Estimates calls self.old sheet.old → StepStands C.Cost N.Network E.Estimates calls side self.old sheet.old result self.new sheet.new }
     {
         promised::<C, N, E>(&self.net, &self.estimates);
@@ -314,6 +321,8 @@ impl<C: Cost, N: Network<C>, E: Estimates<C>> Running<C, N, E> {
         ensures exact { record { answer = result; search = self.new; sheet = sheet.new } ≡ step_of C.Cost N.Network E.Estimates Forward self.old sheet.old }
         // Accepted, it takes the open station of least key, and changes what the rule says, and nothing else.
         ensures rule { OnOk result (StepRule (problem C.Cost N.Network E.Estimates self.old) Forward (standing self.old sheet.old) (standing self.new sheet.new)) }
+        // It is turned down for the first of its reasons that is so, and accepted where none is.
+        ensures reasons { FirstReason Search (step_reasons (problem C.Cost N.Network E.Estimates self.old) (standing self.old sheet.old) Forward) (result_err result) }
         // After any list of calls all that is claimed stands, before and after it, and only an ended search turns it down.
         ensures stands { (calls : List Call) → HasItsSheet C.Cost N.Network E.Estimates calls self.old sheet.old → StepStands C.Cost N.Network E.Estimates calls Forward self.old sheet.old result self.new sheet.new }
     {
@@ -326,6 +335,8 @@ impl<C: Cost, N: Network<C>, E: Estimates<C>> Running<C, N, E> {
         ensures exact { record { answer = result; search = self.new; sheet = sheet.new } ≡ step_of C.Cost N.Network E.Estimates Backward self.old sheet.old }
         // Accepted, it takes the open station of least key, and changes what the rule says, and nothing else.
         ensures rule { OnOk result (StepRule (problem C.Cost N.Network E.Estimates self.old) Backward (standing self.old sheet.old) (standing self.new sheet.new)) }
+        // It is turned down for the first of its reasons that is so, and accepted where none is.
+        ensures reasons { FirstReason Search (step_reasons (problem C.Cost N.Network E.Estimates self.old) (standing self.old sheet.old) Backward) (result_err result) }
         // After any list of calls all that is claimed stands, before and after it, and only an ended search turns it down.
         ensures stands { (calls : List Call) → HasItsSheet C.Cost N.Network E.Estimates calls self.old sheet.old → StepStands C.Cost N.Network E.Estimates calls Backward self.old sheet.old result self.new sheet.new }
     {
@@ -336,6 +347,9 @@ impl<C: Cost, N: Network<C>, E: Estimates<C>> Running<C, N, E> {
     pub fn bounds(&self, sheet: &[Row<C>]) -> Result<Bounds<C::Label>, Fault>
         // The answer, on every input.
         ensures exact { result ≡ bounds_of C.Cost N.Network E.Estimates self.now sheet.now }
+        // Accepted, it answers the floor and the ceiling; turned down, the sheet has too few rows.
+        ensures rule { IfOk result (BoundsRule (problem C.Cost N.Network E.Estimates self.now) (standing self.now sheet.now)) }
+        ensures reasons { FirstReason Search (bounds_reasons (problem C.Cost N.Network E.Estimates self.now) (standing self.now sheet.now)) (result_err result) }
         // After any list of calls, twice every route's cost is at least the floor, and some route costs the ceiling.
         ensures stands { (calls : List Call) → HasItsSheet C.Cost N.Network E.Estimates calls self.now sheet.now → BoundsStand C.Cost N.Network E.Estimates calls self.now sheet.now result }
     {
@@ -347,7 +361,11 @@ impl<C: Cost, N: Network<C>, E: Estimates<C>> Running<C, N, E> {
     pub fn finish(self, sheet: &[Row<C>]) -> Result<Finished<C, N, E>, Unfinished<C, N, E>>
         // The answer, on every input.
         ensures exact { result ≡ finish_of C.Cost N.Network E.Estimates self sheet.now }
-        // After any list of calls it answers the cost of a route that no route undercuts, or none exactly if there is none.
+        // Accepted, the search is ended, and what is told is the search's; turned down, it is for the first reason that is so.
+        ensures rule { IfOk result (FinishRule (problem C.Cost N.Network E.Estimates self) self sheet.now) }
+        ensures reasons { FirstReason Search (finish_reasons (problem C.Cost N.Network E.Estimates self) (standing self sheet.now)) (finish_fault result) }
+        // After any list of calls it answers the cost of a route that no route undercuts, or none exactly if there is none;
+        // it tells the ceiling and the taken count of the search, and all that stood before stands.
         ensures stands { (calls : List Call) → HasItsSheet C.Cost N.Network E.Estimates calls self sheet.now → FinishStands C.Cost N.Network E.Estimates calls self sheet.now result }
     {
         promised::<C, N, E>(&self.net, &self.estimates);

@@ -12,7 +12,7 @@ use networks::network::Network;
 use optimality::sheet::{Ceiling, Mark, Row};
 
 /// Writes a side's mark at a station.
-pub fn put<C: Cost>(rows: &mut [Row<C>], side: Side, station: usize, mark: Mark<C::Label>)
+pub(crate) fn put<C: Cost>(rows: &mut [Row<C>], side: Side, station: usize, mark: Mark<C::Label>)
     requires { station < length rows.old }
     ensures { rows.new ≡ put rows.old side station mark }
 {
@@ -55,7 +55,7 @@ fn along<C: Cost, N: Network<C>>(
     number: usize,
     ceiling: Ceiling<C::Label>,
 ) -> Ceiling<C::Label>
-    requires range { InRange C.Cost.parts (N.Network.meaning net.now) }
+    requires range { InRange C.Cost.section_range (N.Network.meaning net.now) }
     requires long { (N.Network.meaning net.now).stations ≤ length rows.old }
     requires fits { is_some (along C.Cost side label number (slice_get (N.Network.meaning net.now).sections number) (record { rows = rows.old; ceiling = ceiling })) ≡ true }
     ensures length { length rows.new ≡ length rows.old }
@@ -73,7 +73,7 @@ fn along<C: Cost, N: Network<C>>(
 
 /// Every section of a station with the label, in rising number; answers the ceiling after them.
 #[tactic(auto, using(crate::proofs::Spreads::next_fits, crate::proofs::Spreads::next_left, crate::proofs::Spreads::over_all, crate::proofs::Spreads::over_none))]
-pub fn spread<C: Cost, N: Network<C>>(
+pub(crate) fn spread<C: Cost, N: Network<C>>(
     rows: &mut [Row<C>],
     net: &N,
     side: Side,
@@ -81,7 +81,7 @@ pub fn spread<C: Cost, N: Network<C>>(
     label: C::Label,
     ceiling: Ceiling<C::Label>,
 ) -> Ceiling<C::Label>
-    requires range { InRange C.Cost.parts (N.Network.meaning net.now) }
+    requires range { InRange C.Cost.section_range (N.Network.meaning net.now) }
     requires long { (N.Network.meaning net.now).stations ≤ length rows.old }
     requires fits { is_some (spread C.Cost (N.Network.meaning net.now) side label (starters side (N.Network.meaning net.now) station) (record { rows = rows.old; ceiling = ceiling })) ≡ true }
     ensures length { length rows.new ≡ length rows.old }

@@ -1,5 +1,6 @@
 //! What searches find.
 use crate::drawn::{ended, five_stations, open, page, pair, pairs, pipes, sheet, step, view};
+use crate::hours::{Hours, TwoWays};
 use amounts::cost::Cost;
 use amounts::kinds::{Moves, MovesLabel, Samples};
 use faults::{Fault, Side};
@@ -114,5 +115,15 @@ fn launcher_and_trap_in_one(rt: HostRuntime) -> Result<(), Fail> {
         return Err(Fail::new("not ended"));
     };
     assert_eq!(rt; answer(&finished), (Some(0), 0));
+    Ok(())
+}
+
+#[test]
+fn crew_hours_that_no_page_holds(rt: HostRuntime) -> Result<(), Fail> {
+    let mut sheet = [Row::blank(), Row::blank()];
+    assert_eq!(rt;
+        cost_in_turn::<Hours, _, _>(TwoWays, Blank::new(2)?, &mut sheet),
+        Ok(Some(3))
+    );
     Ok(())
 }

@@ -1,5 +1,5 @@
 //! Small networks as pages, and sheets and searches over them.
-use amounts::cost::{Cost, LabelForm, SectionForm};
+use amounts::forms::{LabelForm, PageCost, SectionForm};
 use amounts::kinds::Samples;
 use faults::{Fault, Layer, Refusal, Side};
 use optimality::sheet::{Ceiling, Mark, Row};
@@ -53,7 +53,7 @@ pub(crate) fn pairs() -> [EstimateRecord; 5] {
 }
 
 /// A page of sections and of a pair of estimates for each station, from the launcher 0 to a trap.
-pub(crate) fn page<C: Cost>(
+pub(crate) fn page<C: PageCost>(
     heap: Global,
     trap: u16,
     sections: &[SectionRecord],
@@ -84,7 +84,7 @@ pub(crate) fn five_stations(heap: Global) -> Result<Vec<u8>, AllocError> {
 }
 
 /// A view of a page.
-pub(crate) fn view<C: Cost>(page: &[u8]) -> Result<PageView<'_, C>, Fault> {
+pub(crate) fn view<C: PageCost>(page: &[u8]) -> Result<PageView<'_, C>, Fault> {
     let mut view = blank();
     read(page, &mut view)?;
     Ok(view)

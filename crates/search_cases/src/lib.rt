@@ -8,6 +8,8 @@ mod drawn;
 #[cfg(test)]
 mod foreign_tests;
 #[cfg(test)]
+mod hours;
+#[cfg(test)]
 mod refusals_tests;
 #[cfg(test)]
 mod steps_tests;

@@ -1,1 +1,3 @@
+mod Reading
 mod Told
+pub mod Naming

@@ -1,6 +1,5 @@
 -- Texts one behind another.
-use Rattle.std.specs.Prelude.{◌≡◌, ℕ, zero, suc, ◌<◌, List, [], ◌++◌, IfOk, Result, string_bytes}
-use Rattle.std.specs.declared.alloc.AllocError.{AllocError}
+use Rattle.std.specs.Prelude.{ℕ, zero, suc, List, [], ◌++◌}
 
 -- the texts of the numbers below n, in their order
 abbrev pub lines : (ℕ → List ℕ) → ℕ → List ℕ

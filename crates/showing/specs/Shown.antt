@@ -1,9 +1,10 @@
 -- What a person is shown of a page: a line for the header, a line a section, a line a station, the answer, and whether it retraces.
-use Rattle.std.specs.Prelude.{ℕ, Bool, true, false, cond, List, [], ◌∷◌, ◌++◌, length, Some, None, Ok, Err, Option, Result, codes, decimal, ◌&&◌, ◌==◌, nat_lt, slice_index}
+use Rattle.std.specs.Prelude.{◌≡◌, ℕ, Bool, true, false, cond, List, [], ◌∷◌, ◌++◌, length, is_ok, Some, None, Ok, Err, Option, Result, codes, decimal, ◌&&◌, ◌==◌, nat_lt, slice_index}
 use Rattle.std.specs.List.{slice_get}
 use Rattle.faults.specs.Faults.{refused_line}
 use Rattle.faults.specs.declared.Fault.{Fault}
 use Rattle.amounts.specs.declared.cost.Cost as cost
+use Rattle.amounts.specs.Forms.{Forms}
 use Rattle.networks.specs.declared.section.Section.{Section}
 use Rattle.networks.specs.declared.estimates.Pair.{Pair}
 use Rattle.networks.specs.Nets.{Net}
@@ -39,7 +40,7 @@ verdict_line None holds = codes "no answer" ++ newline
 verdict_line (Some m) true = codes "retraced yes" ++ newline
 verdict_line (Some m) false = codes "retraced no" ++ newline
 
-module _ {C L S : Type 0} (c : cost.Ghosts C L S) where
+module _ {C L S : Type 0} (c : cost.Ghosts C L S) (forms : Forms L S) where
   abbrev pub header_line : Net S → List ℕ
   header_line net =
       codes "kind " ++ (decimal c.KIND ++ (codes " stations " ++ (decimal net.stations ++ (codes " sections " ++ (decimal (length net.sections) ++
@@ -48,29 +49,29 @@ module _ {C L S : Type 0} (c : cost.Ghosts C L S) where
   -- number, open or shut, from, to, moves and samples
   abbrev pub section_line : ℕ → Section S → List ℕ
   section_line n s =
-      let form = c.parts s.amount in
+      let form = forms.parts s.amount in
       codes "section " ++ (decimal n ++ (codes " " ++ (state_word s.shut ++ (codes " " ++ (decimal s.from ++ (codes " " ++ (decimal s.to ++
       (codes " " ++ (decimal form.moves ++ (codes " " ++ (decimal form.samples ++ newline)))))))))))
 
   -- number, and both estimates
   abbrev pub station_line : ℕ → Pair L → List ℕ
   station_line n p =
-      let there = form_of c p.forward in
-      let back = form_of c p.backward in
+      let there = form_of c forms p.forward in
+      let back = form_of c forms p.backward in
       codes "station " ++ (decimal n ++ (codes " forward " ++ (decimal there.moves ++ (codes " " ++ (decimal there.samples ++
       (codes " backward " ++ (decimal back.moves ++ (codes " " ++ (decimal back.samples ++ newline)))))))))
 
   -- section, from, to, and the cost so far
   abbrev pub step_line : Step L → List ℕ
   step_line s =
-      let form = form_of c s.so_far in
+      let form = form_of c forms s.so_far in
       codes "step " ++ (decimal s.section ++ (codes " " ++ (decimal s.from ++ (codes " " ++ (decimal s.to ++
       (codes " " ++ (decimal form.moves ++ (codes " " ++ (decimal form.samples ++ newline)))))))))
 
   -- run, outcome, cost and stations taken
   abbrev pub answer_line : {T : Type 0} → Answer L T → List ℕ
   answer_line m =
-      let form = form_of c m.cost in
+      let form = form_of c forms m.cost in
       codes "answer run " ++ (decimal m.run ++ (codes " " ++ (outcome_word m.outcome ++ (codes " cost " ++ (decimal form.moves ++ (codes " " ++ (decimal form.samples ++
       (codes " taken " ++ (decimal m.taken ++ newline)))))))))
 
@@ -82,9 +83,9 @@ module _ {C L S : Type 0} (c : cost.Ghosts C L S) where
   -- an accepted page
   abbrev pub shown_of : List ℕ → List ℕ
   shown_of page =
-      let net = net_of c page in
-      let pairs = pairs_of c page in
-      let answer = answer_of c page in
+      let net = net_of c forms page in
+      let pairs = pairs_of c forms page in
+      let answer = answer_of c forms page in
       header_line net ++
       (lines (λ n. line_of (section_line n) (slice_get net.sections n)) (length net.sections) ++
       (lines (λ n. line_of (station_line n) (slice_get pairs n)) (length pairs) ++
@@ -98,10 +99,14 @@ module _ {C L S : Type 0} (c : cost.Ghosts C L S) where
   abbrev pub shown_for : List ℕ → List ℕ
   shown_for page = checked page (check_page c.KIND page)
 
+  -- an accepted page is shown as what it means
+  abbrev pub PageShown : List ℕ → List ℕ → Type 0
+  PageShown page text = is_ok (check_page c.KIND page) ≡ true → text ≡ shown_of page
+
 -- whether a page says of itself that its kind of cost is 2
 abbrev pub says_moves : List ℕ → Bool
 says_moves page = nat_lt 1 (length page) && slice_index page 1 == 2
 
 -- any page, read for the kind of moves where it says so, else for that of samples
-abbrev pub show_of : {C L S D M T : Type 0} → cost.Ghosts C L S → cost.Ghosts D M T → List ℕ → List ℕ
-show_of samples moves page = cond (says_moves page) (shown_for moves page) (shown_for samples page)
+abbrev pub show_of : {C L S D M T : Type 0} → cost.Ghosts C L S → Forms L S → cost.Ghosts D M T → Forms M T → List ℕ → List ℕ
+show_of samples samples_forms moves moves_forms page = cond (says_moves page) (shown_for moves moves_forms page) (shown_for samples samples_forms page)

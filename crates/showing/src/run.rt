@@ -1,15 +1,10 @@
 //! The program: a page on standard input, and its lines on standard output.
+use crate::first::first_bytes;
 use crate::show::show;
-use std::io::Read;
-
-/// The most bytes that are read of a page.
-const MOST: u64 = 16_384;
 
 /// The bytes on standard input that are read as a page.
 pub fn page_in(rt: &HostRuntime) -> anyhow::Result<Vec<u8>> {
-    let mut page = Vec::new(rt.alloc());
-    rt.stdin().lock().take(MOST).read_to_end(&mut page)?;
-    Ok(page)
+    Ok(first_bytes(rt.alloc(), rt.stdin().lock())?)
 }
 
 /// Shows the page on standard input, or why it is none.

@@ -3,11 +3,12 @@ ghost use Rattle.std.specs.Prelude.{◌≡◌, ◌++◌, IfOk, OnOk, string_byte
 ghost use Rattle.std.specs.List.{slice_get};
 ghost use Rattle.contents.specs.Content.{net_of, pairs_of, answer_of, step_in};
 ghost use Rattle.contents.specs.Retracing.{retraced};
-ghost use Rattle.showing.specs.Shown.{line_of, section_line, station_line, step_line, answer_lines, verdict_line, shown_of, shown_for, says_moves, show_of};
+ghost use Rattle.showing.specs.Shown.{line_of, section_line, station_line, step_line, answer_lines, verdict_line, shown_of, shown_for, PageShown, says_moves, show_of};
 
 use crate::lines::put_lines;
 use crate::texts::{answer_line, header_line, section_line, station_line, step_line};
 use amounts::cost::Cost;
+use amounts::forms::PageCost;
 use amounts::kinds::{Moves, Samples};
 use networks::estimates::Estimates;
 use networks::network::Network;
@@ -16,12 +17,12 @@ use pages::view::PageView;
 use std::alloc::{AllocError, Global};
 
 /// A section's line, or nothing.
-fn numbered<C: Cost>(
+fn numbered<C: PageCost>(
     heap: Global,
     view: &PageView<'_, C>,
     number: usize,
 ) -> Result<String, AllocError>
-    ensures { IfOk result (λ s. string_bytes s ≡ line_of (section_line C.Cost number) (slice_get (net_of C.Cost view.now.bytes.now).sections number)) }
+    ensures { IfOk result (λ s. string_bytes s ≡ line_of (section_line C.Cost C.forms number) (slice_get (net_of C.Cost C.forms view.now.bytes.now).sections number)) }
 {
     match view.section(number) {
         Some(section) => section_line::<C>(heap, number, section),
@@ -30,12 +31,12 @@ fn numbered<C: Cost>(
 }
 
 /// A station's line, or nothing.
-fn estimated<C: Cost>(
+fn estimated<C: PageCost>(
     heap: Global,
     view: &PageView<'_, C>,
     station: usize,
 ) -> Result<String, AllocError>
-    ensures { IfOk result (λ s. string_bytes s ≡ line_of (station_line C.Cost station) (slice_get (pairs_of C.Cost view.now.bytes.now) station)) }
+    ensures { IfOk result (λ s. string_bytes s ≡ line_of (station_line C.Cost C.forms station) (slice_get (pairs_of C.Cost C.forms view.now.bytes.now) station)) }
 {
     match view.pair(station) {
         Some(pair) => station_line::<C>(heap, station, pair),
@@ -44,8 +45,12 @@ fn estimated<C: Cost>(
 }
 
 /// A step's line, or nothing.
-fn stepped<C: Cost>(heap: Global, view: &PageView<'_, C>, k: usize) -> Result<String, AllocError>
-    ensures { IfOk result (λ s. string_bytes s ≡ line_of (step_line C.Cost) (step_in (answer_of C.Cost view.now.bytes.now) k)) }
+fn stepped<C: PageCost>(
+    heap: Global,
+    view: &PageView<'_, C>,
+    k: usize,
+) -> Result<String, AllocError>
+    ensures { IfOk result (λ s. string_bytes s ≡ line_of (step_line C.Cost C.forms) (step_in (answer_of C.Cost C.forms view.now.bytes.now) k)) }
 {
     match view.step(k) {
         Some(step) => step_line::<C>(heap, step),
@@ -54,12 +59,12 @@ fn stepped<C: Cost>(heap: Global, view: &PageView<'_, C>, k: usize) -> Result<St
 }
 
 /// The answer's lines, where there is one.
-fn put_answer<C: Cost>(
+fn put_answer<C: PageCost>(
     heap: Global,
     out: &mut String,
     view: &PageView<'_, C>,
 ) -> Result<(), AllocError>
-    ensures { OnOk result (string_bytes out.new ≡ string_bytes out.old ++ answer_lines C.Cost (answer_of C.Cost view.now.bytes.now)) }
+    ensures { OnOk result (string_bytes out.new ≡ string_bytes out.old ++ answer_lines C.Cost C.forms (answer_of C.Cost C.forms view.now.bytes.now)) }
 {
     let Some(answer) = view.answer() else {
         return Ok(());
@@ -68,8 +73,8 @@ fn put_answer<C: Cost>(
     put_lines(out, answer.steps, |k| stepped::<C>(heap, view, k))
 }
 
-fn verdict<C: Cost>(view: &PageView<'_, C>) -> &'static str
-    ensures { result.now ≡ verdict_line (answer_of C.Cost view.now.bytes.now) (retraced C.Cost (net_of C.Cost view.now.bytes.now) (answer_of C.Cost view.now.bytes.now)) }
+fn verdict<C: PageCost>(view: &PageView<'_, C>) -> &'static str
+    ensures { result.now ≡ verdict_line (answer_of C.Cost C.forms view.now.bytes.now) (retraced C.Cost (net_of C.Cost C.forms view.now.bytes.now) (answer_of C.Cost C.forms view.now.bytes.now)) }
 {
     if view.answer().is_none() {
         "no answer\n"
@@ -81,8 +86,8 @@ fn verdict<C: Cost>(view: &PageView<'_, C>) -> &'static str
 }
 
 /// The lines of an accepted page.
-fn shown<C: Cost>(heap: Global, view: &PageView<'_, C>) -> Result<String, AllocError>
-    ensures { IfOk result (λ s. string_bytes s ≡ shown_of C.Cost view.now.bytes.now) }
+fn shown<C: PageCost>(heap: Global, view: &PageView<'_, C>) -> Result<String, AllocError>
+    ensures { IfOk result (λ s. string_bytes s ≡ shown_of C.Cost C.forms view.now.bytes.now) }
 {
     let mut out = header_line::<C, PageView<'_, C>>(heap, view)?;
     put_lines(&mut out, view.sections(), |number| {
@@ -97,8 +102,8 @@ fn shown<C: Cost>(heap: Global, view: &PageView<'_, C>) -> Result<String, AllocE
 }
 
 /// The lines of a page that is read for a kind of cost, or its refusal.
-pub fn show_for<C: Cost>(heap: Global, page: &[u8]) -> Result<String, AllocError>
-    ensures { IfOk result (λ s. string_bytes s ≡ shown_for C.Cost page.now) }
+pub fn show_for<C: PageCost>(heap: Global, page: &[u8]) -> Result<String, AllocError>
+    ensures { IfOk result (λ s. string_bytes s ≡ shown_for C.Cost C.forms page.now) }
 {
     let mut view = blank::<C>();
     match read(page, &mut view) {
@@ -109,7 +114,11 @@ pub fn show_for<C: Cost>(heap: Global, page: &[u8]) -> Result<String, AllocError
 
 /// The lines of a page, for the kind of moves where its second byte says so, else for that of samples.
 pub fn show(heap: Global, page: &[u8]) -> Result<String, AllocError>
-    ensures { IfOk result (λ s. string_bytes s ≡ show_of ⟦<Samples as Cost>⟧ ⟦<Moves as Cost>⟧ page.now) }
+    // The text, on every input.
+    ensures exact { IfOk result (λ s. string_bytes s ≡ show_of ⟦<Samples as Cost>⟧ ⟦<Samples as PageCost>⟧.forms ⟦<Moves as Cost>⟧ ⟦<Moves as PageCost>⟧.forms page.now) }
+    // A page that either kind accepts is shown as what it means in this kind.
+    ensures shown_moves { IfOk result (λ s. PageShown ⟦<Moves as Cost>⟧ ⟦<Moves as PageCost>⟧.forms page.now (string_bytes s)) }
+    ensures shown_samples { IfOk result (λ s. PageShown ⟦<Samples as Cost>⟧ ⟦<Samples as PageCost>⟧.forms page.now (string_bytes s)) }
 {
     match page {
         [_, 2, ..] => show_for::<Moves>(heap, page),

@@ -2,7 +2,7 @@
 ghost use Rattle.std.specs.Prelude.{◌≡◌, IfOk, string_bytes};
 ghost use Rattle.showing.specs.Shown.{state_word, outcome_word, header_line, section_line, station_line, step_line, answer_line};
 
-use amounts::cost::{Cost, LabelForm, SectionForm};
+use amounts::forms::{LabelForm, PageCost, SectionForm};
 use contents::answer::{Filed, Outcome, Step};
 use networks::estimates::Pair;
 use networks::network::Network;
@@ -24,11 +24,11 @@ pub(crate) fn outcome_word(outcome: Outcome) -> &'static str
     }
 }
 
-pub(crate) fn header_line<C: Cost, N: Network<C>>(
+pub(crate) fn header_line<C: PageCost, N: Network<C>>(
     heap: Global,
     net: &N,
 ) -> Result<String, AllocError>
-    ensures { IfOk result (λ s. string_bytes s ≡ header_line C.Cost (N.Network.meaning net.now)) }
+    ensures { IfOk result (λ s. string_bytes s ≡ header_line C.Cost C.forms (N.Network.meaning net.now)) }
 {
     let kind = C::KIND;
     let stations = net.stations();
@@ -41,12 +41,12 @@ pub(crate) fn header_line<C: Cost, N: Network<C>>(
 }
 
 /// A section's line.
-pub(crate) fn section_line<C: Cost>(
+pub(crate) fn section_line<C: PageCost>(
     heap: Global,
     number: usize,
     section: Section<C::Section>,
 ) -> Result<String, AllocError>
-    ensures { IfOk result (λ s. string_bytes s ≡ section_line C.Cost number section) }
+    ensures { IfOk result (λ s. string_bytes s ≡ section_line C.Cost C.forms number section) }
 {
     let Section {
         from,
@@ -62,12 +62,12 @@ pub(crate) fn section_line<C: Cost>(
 }
 
 /// A station's line.
-pub(crate) fn station_line<C: Cost>(
+pub(crate) fn station_line<C: PageCost>(
     heap: Global,
     number: usize,
     pair: Pair<C::Label>,
 ) -> Result<String, AllocError>
-    ensures { IfOk result (λ s. string_bytes s ≡ station_line C.Cost number pair) }
+    ensures { IfOk result (λ s. string_bytes s ≡ station_line C.Cost C.forms number pair) }
 {
     let LabelForm { moves, samples } = C::shown(pair.forward).unwrap_or_default();
     let back = C::shown(pair.backward).unwrap_or_default();
@@ -79,8 +79,11 @@ pub(crate) fn station_line<C: Cost>(
 }
 
 /// A step's line.
-pub(crate) fn step_line<C: Cost>(heap: Global, step: Step<C::Label>) -> Result<String, AllocError>
-    ensures { IfOk result (λ s. string_bytes s ≡ step_line C.Cost step) }
+pub(crate) fn step_line<C: PageCost>(
+    heap: Global,
+    step: Step<C::Label>,
+) -> Result<String, AllocError>
+    ensures { IfOk result (λ s. string_bytes s ≡ step_line C.Cost C.forms step) }
 {
     let Step {
         section,
@@ -93,11 +96,11 @@ pub(crate) fn step_line<C: Cost>(heap: Global, step: Step<C::Label>) -> Result<S
 }
 
 /// An answer's line, without its steps.
-pub(crate) fn answer_line<C: Cost>(
+pub(crate) fn answer_line<C: PageCost>(
     heap: Global,
     answer: Filed<C::Label>,
 ) -> Result<String, AllocError>
-    ensures { IfOk result (λ s. string_bytes s ≡ answer_line C.Cost answer) }
+    ensures { IfOk result (λ s. string_bytes s ≡ answer_line C.Cost C.forms answer) }
 {
     let Filed {
         run,

@@ -2,6 +2,7 @@
 -- that these pose.
 use Rattle.std.proofs.Common.{◌≡◌, ℕ, List, [], ◌∷◌, length, replicate, Some, None, Option, Ok, Err, Result, refl, ap, ap₂, ◌∙◌}
 use Rattle.amounts.specs.declared.cost.Cost as cost
+use Rattle.amounts.specs.Forms.{Forms}
 use Rattle.networks.specs.declared.network.Network as network
 use Rattle.networks.specs.declared.estimates.Estimates as estimates
 use Rattle.networks.specs.declared.estimates.Pair.{Pair}
@@ -72,26 +73,26 @@ module _ {C N E L S : Type 0} (c : cost.Ghosts C L S) (n : network.Ghosts N C L 
   abbrev pub plainly : Net S → List (Pair L) → Found C (Net S) (List (Pair L)) L S
   plainly m g = record { net = m; estimates = g; taken = found.taken; cost = found.cost; meeting = found.meeting }
 
-  module _ (run : ℕ) (steps turning : List (Step L)) (page : List ℕ) (r : Routed L) where
+  module _ (forms : Forms L S) (run : ℕ) (steps turning : List (Step L)) (page : List ℕ) (r : Routed L) where
     filed_plainly :
         (a : Result ℕ Fault) (after : List ℕ)
-        → filed_by c n e found run steps turning page r a after
-        ≡ filed_by c plain_net plain_estimates (plainly (n.meaning found.net) (e.meaning found.estimates)) run steps turning page r a after
+        → filed_by c forms n e found run steps turning page r a after
+        ≡ filed_by c forms plain_net plain_estimates (plainly (n.meaning found.net) (e.meaning found.estimates)) run steps turning page r a after
     filed_plainly (Err f) after = refl
     filed_plainly (Ok len) after = refl
 
     filing_plainly :
         (a : Result ℕ Fault)
-        → filing_by c n e found run steps turning page r a
-        ≡ filing_by c plain_net plain_estimates (plainly (n.meaning found.net) (e.meaning found.estimates)) run steps turning page r a
+        → filing_by c forms n e found run steps turning page r a
+        ≡ filing_by c forms plain_net plain_estimates (plainly (n.meaning found.net) (e.meaning found.estimates)) run steps turning page r a
     filing_plainly (Err f) = refl
-    filing_plainly (Ok count) = let w = written c n e found run steps turning page r count in filed_plainly w.answer w.page
+    filing_plainly (Ok count) = let w = written c forms n e found run steps turning page r count in filed_plainly w.answer w.page
 
   file_plainly :
-      (run : ℕ) (sheet : List (Row C L S)) (steps turning : List (Step L)) (page : List ℕ)
-      → file_of c n e found run sheet steps turning page
-      ≡ file_of c plain_net plain_estimates (plainly (n.meaning found.net) (e.meaning found.estimates)) run sheet steps turning page
-  file_plainly run sheet steps turning page = let r = route_of c (n.meaning found.net) steps turning found.meeting sheet in filing_plainly run steps turning page r r.answer
+      (forms : Forms L S) (run : ℕ) (sheet : List (Row C L S)) (steps turning : List (Step L)) (page : List ℕ)
+      → file_of c forms n e found run sheet steps turning page
+      ≡ file_of c forms plain_net plain_estimates (plainly (n.meaning found.net) (e.meaning found.estimates)) run sheet steps turning page
+  file_plainly forms run sheet steps turning page = let r = route_of c (n.meaning found.net) steps turning found.meeting sheet in filing_plainly forms run steps turning page r r.answer
 
 -- What a network and estimates mean ----------------------------------------------------------------
 
@@ -163,11 +164,11 @@ module _ {C N E L S : Type 0} (c : cost.Ghosts C L S) (n : network.Ghosts N C L 
           ∙ ap₂ (λ m u. Some (route_of c m steps turning meeting (sheet_of u))) net_means (after_is sides)
 
       pub file_is :
-          (run : ℕ) (page : List ℕ)
-          → file_after c n e net given sides steps turning run page
-          ≡ Some (file_of c plain_net plain_estimates (plainly c n e (found_at taken a meeting) m g) run rows steps turning page)
-      file_is run page =
-          ap (of_found (λ found. file_of c n e found run (sheet_of (after c n e net given sides)) steps turning page)) (finish_is sides ∙ ended)
-          ∙ ap (λ u. Some (file_of c n e (found_at taken a meeting) run (sheet_of u) steps turning page)) (after_is sides)
-          ∙ ap Some (file_plainly c n e (found_at taken a meeting) run rows steps turning page)
-          ∙ ap₂ (λ m g. Some (file_of c plain_net plain_estimates (plainly c n e (found_at taken a meeting) m g) run rows steps turning page)) net_means given_means
+          (forms : Forms L S) (run : ℕ) (page : List ℕ)
+          → file_after c n e net given sides steps turning forms run page
+          ≡ Some (file_of c forms plain_net plain_estimates (plainly c n e (found_at taken a meeting) m g) run rows steps turning page)
+      file_is forms run page =
+          ap (of_found (λ found. file_of c forms n e found run (sheet_of (after c n e net given sides)) steps turning page)) (finish_is sides ∙ ended)
+          ∙ ap (λ u. Some (file_of c forms n e (found_at taken a meeting) run (sheet_of u) steps turning page)) (after_is sides)
+          ∙ ap Some (file_plainly c n e (found_at taken a meeting) forms run rows steps turning page)
+          ∙ ap₂ (λ m g. Some (file_of c forms plain_net plain_estimates (plainly c n e (found_at taken a meeting) m g) run rows steps turning page)) net_means given_means

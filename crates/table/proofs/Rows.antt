@@ -3,7 +3,8 @@ use Rattle.std.proofs.Common.{◌≡◌, ℕ, [], ◌∷◌, replicate, refl, ap
 use Rattle.std.specs.Prelude.{is_ok}
 use Rattle.amounts.specs.contracts.kinds.SamplesCost.TheImpl.{ghosts as samples}
 use Rattle.amounts.specs.contracts.kinds.MovesCost.TheImpl.{ghosts as moves}
-use Rattle.amounts.specs.declared.cost.SectionForm.{SectionForm}
+use Rattle.amounts.specs.Kinds.{samples_forms}
+use Rattle.amounts.specs.declared.forms.SectionForm.{SectionForm}
 use Rattle.amounts.specs.declared.kinds.Samples.{Samples}
 use Rattle.amounts.specs.declared.kinds.Moves.{Moves}
 use Rattle.amounts.specs.declared.kinds.MovesLabel.{MovesLabel}
@@ -17,7 +18,7 @@ use Rattle.table.proofs.Meant.{after_is, bounds_is, finish_is, route_is, file_is
 
 module _ {N E : Type 0} (n : network.Ghosts N Samples ℤ ℕ) (e : estimates.Ghosts E Samples ℤ ℕ) (net : N) (given : E) where
   module _ (net_means : n.meaning net ≡ drawn) (given_means : e.meaning given ≡ guessed) where
-    stepped_in_turn : InTurn samples n e net given
+    stepped_in_turn : InTurn samples n e net given samples_forms
     stepped_in_turn =
         let bounds = bounds_is samples n e net given net_means given_means in
         let finish = finish_is samples n e net given net_means given_means in
@@ -30,7 +31,7 @@ module _ {N E : Type 0} (n : network.Ghosts N Samples ℤ ℕ) (e : estimates.Gh
           backward_again = bounds (in_turn 4);
           ended = finish (in_turn 4);
           route = route_is samples n e net given net_means given_means (in_turn 4) 4 (pos 8) 1 refl (places 3) (places 3);
-          filed = file_is samples n e net given net_means given_means (in_turn 4) 4 (pos 8) 1 refl (places 3) (places 3) 7 (replicate 247 0);
+          filed = file_is samples n e net given net_means given_means (in_turn 4) 4 (pos 8) 1 refl (places 3) (places 3) samples_forms 7 (replicate 247 0);
         }
 
     stepped_forward : ForwardAlone samples n e net given
@@ -52,7 +53,7 @@ module _ {N E : Type 0} (n : network.Ghosts N Samples ℤ ℕ) (e : estimates.Gh
 module _
     {N E M F : Type 0} (n : network.Ghosts N Samples ℤ ℕ) (e : estimates.Ghosts E Samples ℤ ℕ)
     (m : network.Ghosts M Moves MovesLabel SectionForm) (f : estimates.Ghosts F Moves MovesLabel SectionForm) where
-  pub worked_cases : WorkedCases samples n e moves m f
+  pub worked_cases : WorkedCases samples samples_forms n e moves m f
   worked_cases =
       record {
         both_ends = stepped_in_turn n e;

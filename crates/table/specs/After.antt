@@ -1,6 +1,7 @@
 -- What the calls answer one after the other: Open on blank rows, then steps, then Bounds, Finish, Route or File.
 use Rattle.std.specs.Prelude.{ℕ, zero, suc, List, [], ◌∷◌, replicate, Some, None, Option, Ok, Err, Result}
 use Rattle.amounts.specs.declared.cost.Cost as cost
+use Rattle.amounts.specs.Forms.{Forms}
 use Rattle.networks.specs.declared.network.Network as network
 use Rattle.networks.specs.declared.estimates.Estimates as estimates
 use Rattle.faults.specs.declared.Side.{Side}
@@ -97,5 +98,5 @@ module _ {C N E L S : Type 0} (c : cost.Ghosts C L S) (n : network.Ghosts N C L 
       abbrev pub route_after : Option (Routed L)
       route_after = of_found (λ found. route_of c (n.meaning found.net) steps turning found.meeting (sheet_of (after sides))) (finish_after sides)
 
-      abbrev pub file_after : ℕ → List ℕ → Option (Filing L)
-      file_after run page = of_found (λ found. file_of c n e found run (sheet_of (after sides)) steps turning page) (finish_after sides)
+      abbrev pub file_after : Forms L S → ℕ → List ℕ → Option (Filing L)
+      file_after forms run page = of_found (λ found. file_of c forms n e found run (sheet_of (after sides)) steps turning page) (finish_after sides)

@@ -1,6 +1,6 @@
 -- The network of the worked cases, its estimates, and what is answered of it, in samples.
 use Rattle.std.specs.Prelude.{ℕ, false, List, [], ◌∷◌, replicate, ℤ, pos, Some}
-use Rattle.amounts.specs.declared.cost.SectionForm.{SectionForm}
+use Rattle.amounts.specs.declared.forms.SectionForm.{SectionForm}
 use Rattle.amounts.specs.Forms.{section_form}
 use Rattle.networks.specs.declared.section.Section.{Section}
 use Rattle.networks.specs.declared.estimates.Pair.{Pair}

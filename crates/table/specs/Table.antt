@@ -1,7 +1,8 @@
 -- The table of worked cases: what the calls answer, whatever network and estimates mean what is drawn.
 use Rattle.std.specs.Prelude.{◌≡◌, ℕ, true, List, [], ◌∷◌, replicate, is_ok, ℤ, pos, Some, Ok, Err}
 use Rattle.amounts.specs.declared.cost.Cost as cost
-use Rattle.amounts.specs.declared.cost.SectionForm.{SectionForm}
+use Rattle.amounts.specs.Forms.{Forms}
+use Rattle.amounts.specs.declared.forms.SectionForm.{SectionForm}
 use Rattle.amounts.specs.declared.kinds.Samples.{Samples}
 use Rattle.amounts.specs.declared.kinds.Moves.{Moves}
 use Rattle.amounts.specs.declared.kinds.MovesLabel.{MovesLabel}
@@ -55,7 +56,7 @@ module _ {N E : Type 0} (c : cost.Ghosts Samples ℤ ℕ) (n : network.Ghosts N 
   Between sides floor ceiling = bounds_after c n e net given sides ≡ Ok (bounds floor ceiling)
 
   -- Forward and Backward in turn
-  pub record InTurn : Type 0 where
+  pub record InTurn (forms : Forms ℤ ℕ) : Type 0 where
     pub opened : Between (in_turn 0) 13 Absent
     pub forward : Between (in_turn 1) 14 Absent
     pub backward : Between (in_turn 2) 14 (met 9 1)
@@ -69,7 +70,7 @@ module _ {N E : Type 0} (c : cost.Ghosts Samples ℤ ℕ) (n : network.Ghosts N 
         ≡ Some (record { answer = Ok 3; steps = first ∷ second ∷ third ∷ []; turning = second ∷ first ∷ places 1 })
     -- the page of run 7 has 247 bytes
     pub filed :
-        file_after c n e net given (in_turn 4) (places 3) (places 3) 7 (replicate 247 0)
+        file_after c n e net given (in_turn 4) (places 3) (places 3) forms 7 (replicate 247 0)
         ≡ Some (record { answer = Ok 247; steps = first ∷ second ∷ third ∷ []; turning = second ∷ first ∷ places 1; page = filed_page })
 
   -- Forward alone
@@ -97,12 +98,12 @@ module _ {N E : Type 0} (c : cost.Ghosts Samples ℤ ℕ) (n : network.Ghosts N 
 
 pub record WorkedCases
     {N E M F : Type 0}
-    (c : cost.Ghosts Samples ℤ ℕ) (n : network.Ghosts N Samples ℤ ℕ) (e : estimates.Ghosts E Samples ℤ ℕ)
+    (c : cost.Ghosts Samples ℤ ℕ) (forms : Forms ℤ ℕ) (n : network.Ghosts N Samples ℤ ℕ) (e : estimates.Ghosts E Samples ℤ ℕ)
     (d : cost.Ghosts Moves MovesLabel SectionForm) (m : network.Ghosts M Moves MovesLabel SectionForm) (f : estimates.Ghosts F Moves MovesLabel SectionForm)
     : Type 0 where
-  pub both_ends : Over c n e drawn guessed (InTurn c n e)
+  pub both_ends : Over c n e drawn guessed (λ net given. InTurn c n e net given forms)
   -- the page that is filed is accepted and means what was put in, so what is drawn is the meaning of a network and estimates
-  pub page : Back c (record { network = drawn; estimates = guessed; answer = Some (route_filed c 7 4 (first ∷ second ∷ third ∷ [])) }) filed_page
+  pub page : Back c forms (record { network = drawn; estimates = guessed; answer = Some (route_filed c 7 4 (first ∷ second ∷ third ∷ [])) }) filed_page
   pub forward_alone : Over c n e drawn guessed (ForwardAlone c n e)
   -- the forward estimate at station 0
   pub at_7 : Over c n e drawn (guessed_from 7) (Opens c n e)

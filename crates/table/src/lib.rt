@@ -4,6 +4,7 @@
 ghost use Rattle.table.specs.Table.{WorkedCases};
 
 use amounts::cost::Cost;
+use amounts::forms::PageCost;
 use amounts::kinds::{Moves, Samples};
 use networks::estimates::Estimates;
 use networks::network::Network;
@@ -15,5 +16,5 @@ where
     E: Estimates<Samples>,
     M: Network<Moves>,
     F: Estimates<Moves>,
-    ensures { WorkedCases ⟦<Samples as Cost>⟧ N.Network E.Estimates ⟦<Moves as Cost>⟧ M.Network F.Estimates }
+    ensures { WorkedCases ⟦<Samples as Cost>⟧ ⟦<Samples as PageCost>⟧.forms N.Network E.Estimates ⟦<Moves as Cost>⟧ M.Network F.Estimates }
 {}

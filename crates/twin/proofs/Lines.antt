@@ -1,7 +1,7 @@
 -- What is written of a report, and what is still to come.
 use Rattle.std.proofs.Common.{◌≡◌, ℕ, ◌+◌, List, ◌++◌, drop, Some, sym, ap, ◌∙◌, append_assoc}
 use Rattle.std.specs.List.{slice_get}
-use Rattle.amounts.specs.declared.cost.SectionForm.{SectionForm}
+use Rattle.amounts.specs.declared.forms.SectionForm.{SectionForm}
 use Rattle.networks.specs.declared.section.Section.{Section}
 use Rattle.networks.proofs.Numbers.{drop_nth}
 use Rattle.twin.specs.Report.{section_line, section_lines}

@@ -3,7 +3,7 @@ use Rattle.std.specs.Prelude.{ℕ, ◌+◌, cond, List, [], ◌∷◌, ◌++◌,
 use Rattle.std.specs.Option.{option_map}
 use Rattle.faults.specs.Faults.{refused_line}
 use Rattle.amounts.specs.Kinds.{samples_parts, samples_made}
-use Rattle.amounts.specs.declared.cost.SectionForm.{SectionForm}
+use Rattle.amounts.specs.declared.forms.SectionForm.{SectionForm}
 use Rattle.faults.specs.declared.Fault.{Fault}
 use Rattle.networks.specs.Nets.{Net}
 use Rattle.twinline.specs.Twin.{Line, line_drawn, twin_net}

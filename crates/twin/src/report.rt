@@ -3,7 +3,8 @@ ghost use Rattle.std.specs.Prelude.{◌≡◌, ◌++◌, IfOk, string_bytes, OnO
 ghost use Rattle.twin.specs.Report.{heading_line, section_line, report_of, answer_of};
 
 use crate::asked::{Asked, Kind};
-use amounts::cost::{Cost, SectionForm};
+use amounts::cost::Cost;
+use amounts::forms::{PageCost, SectionForm};
 use amounts::kinds::{Moves, Samples};
 use networks::network::Network;
 use networks::section::Section;
@@ -25,12 +26,12 @@ fn heading<C: Cost, N: Network<C>>(out: &mut String, net: &N) -> Result<(), Allo
 }
 
 /// A section's number, ends and amount.
-fn section_line<C: Cost>(
+fn section_line<C: PageCost>(
     out: &mut String,
     number: usize,
     section: Section<C::Section>,
 ) -> Result<(), AllocError>
-    ensures { OnOk result (string_bytes out.new ≡ string_bytes out.old ++ section_line C.Cost.parts number section) }
+    ensures { OnOk result (string_bytes out.new ≡ string_bytes out.old ++ section_line C.forms.parts number section) }
 {
     let Section {
         from,
@@ -43,8 +44,8 @@ fn section_line<C: Cost>(
 }
 
 /// A network's line, and a line a section.
-fn report<C: Cost, N: Network<C>>(heap: Global, net: &N) -> Result<String, AllocError>
-    ensures { IfOk result (λ s. string_bytes s ≡ report_of C.Cost.parts (N.Network.meaning net.now)) }
+fn report<C: PageCost, N: Network<C>>(heap: Global, net: &N) -> Result<String, AllocError>
+    ensures { IfOk result (λ s. string_bytes s ≡ report_of C.forms.parts (N.Network.meaning net.now)) }
 {
     let mut out = String::new(heap);
     heading::<C, N>(&mut out, net)?;

@@ -5,7 +5,7 @@ use Rattle.std.proofs.lemmas.Nat.{le-div}
 use Rattle.std.proofs.lemmas.Bool.Decides.{nat_tests}
 use Rattle.std.proofs.lemmas.Option.{none-some, same_Some}
 use Rattle.amounts.specs.Forms.{section_form}
-use Rattle.amounts.specs.declared.cost.SectionForm.{SectionForm}
+use Rattle.amounts.specs.declared.forms.SectionForm.{SectionForm}
 use Rattle.networks.specs.declared.section.Section.{Section}
 use Rattle.twinline.specs.Twin.{Line, LineRange, along, section_count, cross_place, open_section, numbered}
 use Rattle.twinline.specs.Drawn.{Drawn, upper_run, lower_run, down, up}

@@ -8,7 +8,7 @@ use Rattle.std.proofs.lemmas.Bool.{cond_both}
 use Rattle.std.proofs.lemmas.Bool.Decides.{nat_tests}
 use Rattle.networks.specs.Nets.{SectionInRange, InRange}
 use Rattle.amounts.specs.Forms.{SectionRange, section_form}
-use Rattle.amounts.specs.declared.cost.SectionForm.{SectionForm}
+use Rattle.amounts.specs.declared.forms.SectionForm.{SectionForm}
 use Rattle.twinline.specs.Twin.{Line, LineRange, along, section_count, amount_of, numbered, twin_net, cross_place}
 
 module _ {X : Type 0} (f : ℕ → X) where
@@ -29,25 +29,24 @@ module _ (t : Line) (r : LineRange t) where
       let l : rest / 2 ≤ along t / t.spacing = omega arith in
       (le-div_iff_mul-le {k = t.spacing} {x = rest / 2} {y = along t} k).0 l
 
-module _ {S : Type 0} (parts : S → SectionForm) (made : SectionForm → S) (kept : (f : SectionForm) → SectionRange f → SectionRange (parts (made f))) (t : Line) (r : LineRange t) where
-  amount_range : (n : ℕ) → SectionRange (parts (amount_of made t n))
+module _ {S : Type 0} (range : S → Type 0) (made : SectionForm → S) (kept : (f : SectionForm) → SectionRange f → range (made f)) (t : Line) (r : LineRange t) where
+  amount_range : (n : ℕ) → range (amount_of made t n)
   amount_range n =
-      let fair : S → Type 0 = λ a. SectionRange (parts a) in
-      cond_both (ltb n (along t)) _ _ fair (λ _. kept (section_form 0 t.upper) (record { moves = lit< tt; samples = r.fit.0 }))
-      (λ _. cond_both (ltb n (2 * along t)) _ _ fair (λ _. kept (section_form 0 t.lower) (record { moves = lit< tt; samples = r.fit.1 }))
+      cond_both (ltb n (along t)) _ _ range (λ _. kept (section_form 0 t.upper) (record { moves = lit< tt; samples = r.fit.0 }))
+      (λ _. cond_both (ltb n (2 * along t)) _ _ range (λ _. kept (section_form 0 t.lower) (record { moves = lit< tt; samples = r.fit.1 }))
       (λ _. kept (section_form 1 t.crossover) (record { moves = lit< tt; samples = r.fit.2 })))
 
-  within : (n : ℕ) → n < section_count t → SectionInRange parts (2 * t.count) (numbered made t n)
+  within : (n : ℕ) → n < section_count t → SectionInRange range (2 * t.count) (numbered made t n)
   within n h =
       let p : cross_place t n ≤ along t = place_within t r (n - 2 * along t) (omega arith) in
       record { from = grind (arith, nat_tests); to = grind (arith, nat_tests); amount = amount_range n }
 
-  pub range_twin : InRange parts (twin_net made t)
+  pub range_twin : InRange range (twin_net made t)
   range_twin = record {
     some = omega arith;
     few = omega arith;
     launcher = omega arith;
     trap = omega arith;
     short = rw (length-map-range_with_len (numbered made t) 0 (section_count t)) (omega (arith, div-le_self (along t) t.spacing));
-    each = all_counting (numbered made t) (SectionInRange parts (2 * t.count)) (section_count t) within;
+    each = all_counting (numbered made t) (SectionInRange range (2 * t.count)) (section_count t) within;
   }

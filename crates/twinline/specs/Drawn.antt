@@ -1,7 +1,7 @@
 -- The twin line as it is drawn: an upper run, a lower run, and two crossovers at every multiple of the spacing.
 use Rattle.std.specs.Prelude.{ℕ, ◌+◌, ◌-◌, ◌*◌, ◌<◌}
 use Rattle.amounts.specs.Forms.{section_form}
-use Rattle.amounts.specs.declared.cost.SectionForm.{SectionForm}
+use Rattle.amounts.specs.declared.forms.SectionForm.{SectionForm}
 use Rattle.networks.specs.declared.section.Section.{Section}
 use Rattle.twinline.specs.Twin.{Line, open_section}
 

@@ -2,16 +2,18 @@
 use Rattle.std.specs.Prelude.{ℕ, ◌+◌, ◌-◌, ◌*◌, ◌/◌, ◌%◌, ◌^◌, ◌<◌, ◌≤◌, Bool, false, cond, [], ◌∷◌, map, Result, ◌==◌, nat_lt}
 use Rattle.std.specs.List.{range_with_len}
 use Rattle.faults.specs.Faults.{ranged}
+use Rattle.faults.specs.Reasons.{Reasons, refused_if, else_accepted}
 use Rattle.amounts.specs.Forms.{section_form}
-use Rattle.amounts.specs.Sampling.{length_fits, rate_fits, samples_in}
-use Rattle.amounts.specs.declared.cost.SectionForm.{SectionForm}
+use Rattle.amounts.specs.Sampling.{length_fits, rate_fits, samples_in, TooLong, NoSuchRate}
+use Rattle.amounts.specs.declared.forms.SectionForm.{SectionForm}
 use Rattle.faults.specs.declared.Fault.{Fault}
+use Rattle.faults.specs.declared.Refusal.TheVariants.{ParameterOutOfRange}
 use Rattle.faults.specs.declared.Side.{Side}
 use Rattle.faults.specs.declared.Side.TheVariants.{Forward, Backward}
 use Rattle.twinline.specs.declared.twin_line.Drawing.{Drawing}
 use Rattle.networks.specs.declared.section.Section.{Section}
 use Rattle.networks.specs.Nets.{Net}
-use Rattle.std.specs.Int.{is_in_range}
+use Rattle.std.specs.Int.{is_in_range, IsOutOfRange}
 
 -- From the drawing ---------------------------------------------------------------------------
 
@@ -37,6 +39,17 @@ line_drawn d =
     ranged
     (is_in_range 1 2048 d.count ∷ is_in_range 1 2048 d.spacing ∷ length_fits d.upper ∷ length_fits d.lower ∷ length_fits d.crossover ∷ rate_fits d.rate ∷ [])
     (line d.count d.spacing (samples_in d.upper d.rate) (samples_in d.lower d.rate) (samples_in d.crossover d.rate))
+
+-- why a twin line is not drawn
+abbrev pub drawing_reasons : Drawing → Reasons
+drawing_reasons d =
+    refused_if (IsOutOfRange 1 2048 d.count) (ParameterOutOfRange 0)
+    (refused_if (IsOutOfRange 1 2048 d.spacing) (ParameterOutOfRange 1)
+    (refused_if (TooLong d.upper) (ParameterOutOfRange 2)
+    (refused_if (TooLong d.lower) (ParameterOutOfRange 3)
+    (refused_if (TooLong d.crossover) (ParameterOutOfRange 4)
+    (refused_if (NoSuchRate d.rate) (ParameterOutOfRange 5)
+    else_accepted)))))
 
 -- By number ----------------------------------------------------------------------------------
 

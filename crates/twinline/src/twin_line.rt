@@ -1,14 +1,17 @@
 //! A line of two parallel pipes with crossovers at even spaces: worked out by formula, not stored.
 ghost use Rattle.std.specs.Prelude.{◌≡◌, ◌*◌, ◌<◌, ◌↔◌, [], Some};
 ghost use Rattle.std.specs.List.{slice_get};
+ghost use Rattle.std.specs.Result.{result_err};
+ghost use Rattle.faults.specs.Reasons.{FirstReason};
+ghost use Rattle.faults.specs.declared.Layer.TheVariants as layer;
 ghost use Rattle.amounts.specs.Forms.{section_form};
 ghost use Rattle.networks.specs.declared.section.Section.{Section as Part};
 ghost use Rattle.networks.specs.Nets.{InRange};
-ghost use Rattle.twinline.specs.Twin.{Line, LineRange, line, line_drawn, twin_net, numbered as section_by, along as along_of, section_count, end_of, open_section};
+ghost use Rattle.twinline.specs.Twin.{Line, LineRange, line, line_drawn, drawing_reasons, twin_net, numbered as section_by, along as along_of, section_count, end_of, open_section};
 ghost use Rattle.twinline.specs.Drawn.{Drawn};
 ghost use Rattle.twinline.specs.Touching.{Only, Crossing, or_none};
 
-use amounts::cost::{Cost, SectionForm};
+use amounts::forms::{PageCost, SectionForm};
 use amounts::sampling::{length_fits, rate_fits, samples_of};
 use faults::{Fault, Side, in_range};
 use networks::network::Network;
@@ -60,8 +63,8 @@ fn open_section<A>(from: usize, to: usize, amount: A) -> Section<A>
     }
 }
 
-fn amount<C: Cost>(moves: u16, samples: u32) -> C::Section
-    ensures { result ≡ C.Cost.made (section_form moves samples) }
+fn amount<C: PageCost>(moves: u16, samples: u32) -> C::Section
+    ensures { result ≡ C.forms.made (section_form moves samples) }
 {
     C::made(SectionForm { moves, samples })
 }
@@ -76,7 +79,8 @@ fn kth(first: Option<usize>, second: Option<usize>, k: usize) -> Option<usize>
 impl TwinLine {
     /// The twin line of a drawing, or the first parameter that breaks its range.
     pub fn new(drawing: Drawing) -> Result<TwinLine, Fault>
-        ensures { result ≡ line_drawn drawing }
+        ensures exact { result ≡ line_drawn drawing }
+        ensures reasons { FirstReason layer.Network (drawing_reasons drawing) (result_err result) }
     {
         let Drawing {
             count,
@@ -150,9 +154,9 @@ impl TwinLine {
     }
 
     /// The numbered section: along the upper pipe, along the lower one, or across.
-    fn numbered<C: Cost>(&self, number: usize) -> Section<C::Section>
+    fn numbered<C: PageCost>(&self, number: usize) -> Section<C::Section>
         requires { number < section_count self.now }
-        ensures { result ≡ section_by C.Cost.made self.now number }
+        ensures { result ≡ section_by C.forms.made self.now number }
     {
         let count = self.count;
         let along = count - 1;
@@ -174,13 +178,13 @@ impl TwinLine {
     }
 }
 
-impl<C: Cost> Network<C> for TwinLine {
-    ghost meaning = { twin_net C.Cost.made };
+impl<C: PageCost> Network<C> for TwinLine {
+    ghost meaning = { twin_net C.forms.made };
 
     /// What the line holds is always in its range.
     fn stations(&self) -> usize
-        ensures count { result ≡ (twin_net C.Cost.made self.now).stations }
-        ensures range { InRange C.Cost.parts (twin_net C.Cost.made self.now) }
+        ensures count { result ≡ (twin_net C.forms.made self.now).stations }
+        ensures range { InRange C.Cost.section_range (twin_net C.forms.made self.now) }
         ensures line { LineRange self.now }
     {
         2 * self.count
@@ -200,8 +204,8 @@ impl<C: Cost> Network<C> for TwinLine {
 
     /// The section that is drawn under this number, if any is.
     fn section(&self, number: usize) -> Option<Section<C::Section>>
-        ensures exact { result ≡ slice_get (twin_net C.Cost.made self.now).sections number }
-        ensures drawn { (s : Part C.Section) → (result ≡ Some s) ↔ Drawn C.Cost.made self.now number s }
+        ensures exact { result ≡ slice_get (twin_net C.forms.made self.now).sections number }
+        ensures drawn { (s : Part C.Section) → (result ≡ Some s) ↔ Drawn C.forms.made self.now number s }
     {
         if number < self.section_count() {
             Some(self.numbered::<C>(number))

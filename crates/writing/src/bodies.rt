@@ -5,7 +5,7 @@ ghost use Rattle.networks.specs.Nets.{InRange};
 ghost use Rattle.contents.specs.Content.{meant_of};
 ghost use Rattle.contents.specs.Encoding.{form_of, header_record, section_record, estimate_record, answer_record, step_record};
 
-use amounts::cost::{Cost, LabelForm};
+use amounts::forms::{LabelForm, PageCost};
 use contents::answer::{Step, WholeAnswer};
 use networks::estimates::{Estimates, Pair};
 use networks::network::Network;
@@ -13,15 +13,15 @@ use networks::section::Section;
 use records::kinds::{AnswerRecord, EstimateRecord, HeaderRecord, SectionRecord, StepRecord};
 
 /// An amount's form; zeros where it has none.
-pub(crate) fn form_of<C: Cost>(amount: C::Label) -> LabelForm
-    ensures { result ≡ form_of C.Cost amount }
+pub(crate) fn form_of<C: PageCost>(amount: C::Label) -> LabelForm
+    ensures { result ≡ form_of C.Cost C.forms amount }
 {
     C::shown(amount).unwrap_or_default()
 }
 
-pub(crate) fn header_body<C: Cost, N: Network<C>>(net: &N) -> HeaderRecord
-    ensures body { result ≡ header_record C.Cost (N.Network.meaning net.now) }
-    ensures range { InRange C.Cost.parts (N.Network.meaning net.now) }
+pub(crate) fn header_body<C: PageCost, N: Network<C>>(net: &N) -> HeaderRecord
+    ensures body { result ≡ header_record C.Cost C.forms (N.Network.meaning net.now) }
+    ensures range { InRange C.Cost.section_range (N.Network.meaning net.now) }
 {
     HeaderRecord {
         kind: C::KIND,
@@ -32,10 +32,10 @@ pub(crate) fn header_body<C: Cost, N: Network<C>>(net: &N) -> HeaderRecord
     }
 }
 
-fn section_body<C: Cost>(section: Section<C::Section>) -> SectionRecord
+fn section_body<C: PageCost>(section: Section<C::Section>) -> SectionRecord
     requires from { section.from < 2 ^ 16 }
     requires to { section.to < 2 ^ 16 }
-    ensures { result ≡ section_record C.Cost section }
+    ensures { result ≡ section_record C.Cost C.forms section }
 {
     SectionRecord {
         state: u8::from(section.shut),
@@ -45,8 +45,8 @@ fn section_body<C: Cost>(section: Section<C::Section>) -> SectionRecord
     }
 }
 
-fn estimate_body<C: Cost>(pair: Pair<C::Label>) -> EstimateRecord
-    ensures { result ≡ estimate_record C.Cost pair }
+fn estimate_body<C: PageCost>(pair: Pair<C::Label>) -> EstimateRecord
+    ensures { result ≡ estimate_record C.Cost C.forms pair }
 {
     EstimateRecord {
         forward: form_of::<C>(pair.forward),
@@ -63,11 +63,11 @@ fn run_number(run: u32) -> u32
     run
 }
 
-pub(crate) fn answer_body<C: Cost>(answer: &WholeAnswer<'_, C::Label>) -> AnswerRecord
+pub(crate) fn answer_body<C: PageCost>(answer: &WholeAnswer<'_, C::Label>) -> AnswerRecord
     requires steps { length answer.now.steps.now < 2 ^ 16 }
     requires taken { answer.now.taken < 2 ^ 16 }
     ensures run { answer.now.run < 2 ^ 32 }
-    ensures body { result ≡ answer_record C.Cost (meant_of answer.now) }
+    ensures body { result ≡ answer_record C.Cost C.forms (meant_of answer.now) }
 {
     AnswerRecord {
         run: run_number(answer.run),
@@ -78,9 +78,9 @@ pub(crate) fn answer_body<C: Cost>(answer: &WholeAnswer<'_, C::Label>) -> Answer
     }
 }
 
-fn step_body<C: Cost>(step: Step<C::Label>) -> StepRecord
+fn step_body<C: PageCost>(step: Step<C::Label>) -> StepRecord
     requires { step.section < 2 ^ 16 }
-    ensures { result ≡ step_record C.Cost step }
+    ensures { result ≡ step_record C.Cost C.forms step }
 {
     StepRecord {
         section: step.section as u16,
@@ -89,27 +89,30 @@ fn step_body<C: Cost>(step: Step<C::Label>) -> StepRecord
 }
 
 /// The record of the numbered section; absent past the last.
-pub(crate) fn section_row<C: Cost, N: Network<C>>(net: &N, number: usize) -> Option<SectionRecord>
-    requires { InRange C.Cost.parts (N.Network.meaning net.now) }
-    ensures { result ≡ slice_get (map (section_record C.Cost) (N.Network.meaning net.now).sections) number }
+pub(crate) fn section_row<C: PageCost, N: Network<C>>(
+    net: &N,
+    number: usize,
+) -> Option<SectionRecord>
+    requires { InRange C.Cost.section_range (N.Network.meaning net.now) }
+    ensures { result ≡ slice_get (map (section_record C.Cost C.forms) (N.Network.meaning net.now).sections) number }
 {
     Some(section_body::<C>(net.section(number)?))
 }
 
 /// The record of a station's estimates; absent past the last.
-pub(crate) fn estimate_row<C: Cost, E: Estimates<C>>(
+pub(crate) fn estimate_row<C: PageCost, E: Estimates<C>>(
     estimates: &E,
     station: usize,
 ) -> Option<EstimateRecord>
-    ensures { result ≡ slice_get (map (estimate_record C.Cost) (E.Estimates.meaning estimates.now)) station }
+    ensures { result ≡ slice_get (map (estimate_record C.Cost C.forms) (E.Estimates.meaning estimates.now)) station }
 {
     Some(estimate_body::<C>(estimates.pair(station)?))
 }
 
 /// The record of a step, counted from 0; absent past the last.
-pub(crate) fn step_row<C: Cost>(steps: &[Step<C::Label>], k: usize) -> Option<StepRecord>
+pub(crate) fn step_row<C: PageCost>(steps: &[Step<C::Label>], k: usize) -> Option<StepRecord>
     requires { AllByRecursion (λ step. step.section < 2 ^ 16) steps.now }
-    ensures { result ≡ slice_get (map (step_record C.Cost) steps.now) k }
+    ensures { result ≡ slice_get (map (step_record C.Cost C.forms) steps.now) k }
 {
     Some(step_body::<C>(*steps.get(k)?))
 }

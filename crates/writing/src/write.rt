@@ -3,9 +3,12 @@ ghost use Rattle.std.specs.Prelude.{◌≡◌, ◌+◌, ◌^◌, ◌<◌, ◌≤
 ghost use Rattle.std.specs.Result.{result_err};
 ghost use Rattle.std.specs.Option.{option_map};
 ghost use Rattle.records.specs.Bytes.{overlay};
-ghost use Rattle.contents.specs.Again.{Back};
+ghost use Rattle.faults.specs.declared.Layer.TheVariants as layer;
+ghost use Rattle.faults.specs.Reasons.{FirstReason};
+ghost use Rattle.contents.specs.Again.{Back, NeverRefused, WrittenAgain};
 ghost use Rattle.contents.specs.Content.{meant_of};
 ghost use Rattle.contents.specs.Encoding.{answer_encoded};
+ghost use Rattle.contents.specs.Refusing.{write_reasons};
 ghost use Rattle.contents.specs.Writing.{placed, answer_size, RunFits, Short, content_by, write_fault, write_of};
 ghost use Rattle.writing.specs.Places.{size_with, answer_place};
 
@@ -13,6 +16,7 @@ use crate::bodies::{answer_body, estimate_row, header_body, section_row, step_ro
 use crate::holds::check_answer;
 use crate::rows::{put, put_run};
 use amounts::cost::Cost;
+use amounts::forms::PageCost;
 use contents::answer::WholeAnswer;
 use faults::{Fault, Layer, Refusal};
 use networks::estimates::Estimates;
@@ -59,7 +63,7 @@ pub fn answer_place<C: Cost, N: Network<C>, E: Estimates<C>>(
 }
 
 /// Puts an answer with its steps, if there is one, on the page from an offset on, and answers where they end.
-fn put_answer<C: Cost>(
+fn put_answer<C: PageCost>(
     page: &mut [u8],
     at: usize,
     answer: &Option<WholeAnswer<'_, C::Label>>,
@@ -68,7 +72,7 @@ fn put_answer<C: Cost>(
     requires short { Short (option_map meant_of answer.now) }
     ensures end { result ≡ at + answer_size (option_map meant_of answer.now) }
     ensures run { RunFits (option_map meant_of answer.now) }
-    ensures page { page.new ≡ overlay page.old at (answer_encoded C.Cost (option_map meant_of answer.now)) }
+    ensures page { page.new ≡ overlay page.old at (answer_encoded C.Cost C.forms (option_map meant_of answer.now)) }
 {
     let Some(answer) = answer else {
         return at;
@@ -84,13 +88,13 @@ fn put_answer<C: Cost>(
 
 /// Whether all can be written on a page of so many bytes; else the fault: other stations than the network's, too short
 /// a page, then an answer that a page cannot hold.
-fn check_write<C: Cost, N: Network<C>, E: Estimates<C>>(
+fn check_write<C: PageCost, N: Network<C>, E: Estimates<C>>(
     room: usize,
     net: &N,
     estimates: &E,
     answer: &Option<WholeAnswer<'_, C::Label>>,
 ) -> Result<(), Fault>
-    ensures { result_err result ≡ write_fault C.Cost room (content_by (N.Network.meaning net.now) (E.Estimates.meaning estimates.now) answer.now) }
+    ensures { result_err result ≡ write_fault C.Cost C.forms room (content_by (N.Network.meaning net.now) (E.Estimates.meaning estimates.now) answer.now) }
 {
     let steps = match answer {
         Some(answer) => Some(answer.steps.len()),
@@ -101,15 +105,15 @@ fn check_write<C: Cost, N: Network<C>, E: Estimates<C>>(
 }
 
 /// Puts everything on a page that can hold it, and answers how many bytes.
-fn put_page<C: Cost, N: Network<C>, E: Estimates<C>>(
+fn put_page<C: PageCost, N: Network<C>, E: Estimates<C>>(
     page: &mut [u8],
     net: &N,
     estimates: &E,
     answer: &Option<WholeAnswer<'_, C::Label>>,
 ) -> usize
-    requires { write_fault C.Cost (length page.old) (content_by (N.Network.meaning net.now) (E.Estimates.meaning estimates.now) answer.now) ≡ None }
-    ensures left { record { answer = Ok result; page = page.new } ≡ write_of C.Cost page.old (content_by (N.Network.meaning net.now) (E.Estimates.meaning estimates.now) answer.now) }
-    ensures back { Back C.Cost (content_by (N.Network.meaning net.now) (E.Estimates.meaning estimates.now) answer.now) (take result page.new) }
+    requires { write_fault C.Cost C.forms (length page.old) (content_by (N.Network.meaning net.now) (E.Estimates.meaning estimates.now) answer.now) ≡ None }
+    ensures left { record { answer = Ok result; page = page.new } ≡ write_of C.Cost C.forms page.old (content_by (N.Network.meaning net.now) (E.Estimates.meaning estimates.now) answer.now) }
+    ensures back { Back C.Cost C.forms (content_by (N.Network.meaning net.now) (E.Estimates.meaning estimates.now) answer.now) (take result page.new) }
 {
     let end = put(page, 0, &header_body::<C, N>(net));
     let end = put_run(page, end, net.sections(), |number| {
@@ -123,15 +127,19 @@ fn put_page<C: Cost, N: Network<C>, E: Estimates<C>>(
 }
 
 /// Writes a network, estimates and perhaps an answer over the front of the page, and answers how many bytes.
-/// Refused, it writes nothing. What is written reads back as what was put in.
-pub fn write<C: Cost, N: Network<C>, E: Estimates<C>>(
+/// Refused, it writes nothing, and the fault names the first reason. What is written reads back as what was put in;
+/// what was read, written again, gives the same bytes.
+pub fn write<C: PageCost, N: Network<C>, E: Estimates<C>>(
     page: &mut [u8],
     net: &N,
     estimates: &E,
     answer: Option<WholeAnswer<'_, C::Label>>,
 ) -> Result<usize, Fault>
-    ensures left { record { answer = result; page = page.new } ≡ write_of C.Cost page.old (content_by (N.Network.meaning net.now) (E.Estimates.meaning estimates.now) answer.entry) }
-    ensures back { elim result [ Ok n ↦ Back C.Cost (content_by (N.Network.meaning net.now) (E.Estimates.meaning estimates.now) answer.entry) (take n page.new) | Err _ ↦ Unit {0} ] }
+    ensures left { record { answer = result; page = page.new } ≡ write_of C.Cost C.forms page.old (content_by (N.Network.meaning net.now) (E.Estimates.meaning estimates.now) answer.entry) }
+    ensures back { elim result [ Ok n ↦ Back C.Cost C.forms (content_by (N.Network.meaning net.now) (E.Estimates.meaning estimates.now) answer.entry) (take n page.new) | Err _ ↦ Unit {0} ] }
+    ensures reasons { FirstReason layer.Page (write_reasons C.Cost C.forms (length page.old) (content_by (N.Network.meaning net.now) (E.Estimates.meaning estimates.now) answer.entry)) (result_err result) }
+    ensures held { NeverRefused C.Cost C.forms (content_by (N.Network.meaning net.now) (E.Estimates.meaning estimates.now) answer.entry) page.old result page.new }
+    ensures again { WrittenAgain C.Cost C.forms (content_by (N.Network.meaning net.now) (E.Estimates.meaning estimates.now) answer.entry) page.old result page.new }
 {
     check_write::<C, N, E>(page.len(), net, estimates, &answer)?;
     Ok(put_page::<C, N, E>(page, net, estimates, &answer))

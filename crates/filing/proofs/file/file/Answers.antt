@@ -7,16 +7,16 @@ use Rattle.filing.proofs.file.file.Goals as goal
 
 pub returns-clause-filed : goal.returns-clause-filed
 returns-clause-filed g c =
-    filed_all g.C.Cost g.N.Network g.E.Estimates g.met.C.Cost.lawful (record { sections = g.met.C.Cost.sections; labels = g.met.C.Cost.labels; kinds = g.met.C.Cost.kinds }) g.met.C.Cost.totals
+    filed_all g.C.Cost g.C.PageCost.forms g.N.Network g.E.Estimates g.met.C.Cost.lawful (record { ranges = g.met.C.Cost.ranges; sections = g.met.C.PageCost.sections; labels = g.met.C.PageCost.labels; kinds = g.met.C.PageCost.kinds }) g.met.C.PageCost.totals
     c.args.found.now c.args.run c.ranges.run.fits c.args.sheet.now c.args.steps.now c.args.turning.now c.args.page.now
-    (subst (λ x. InRange g.C.Cost.parts (g.N.Network.meaning x)) c.network.ensures c.promised.ensures.range)
-    (subst (λ x. GivenInRange g.C.Cost.shown (g.E.Estimates.meaning x)) c.estimates.ensures c.promised.ensures.given)
+    (subst (λ x. InRange g.C.Cost.section_range (g.N.Network.meaning x)) c.network.ensures c.promised.ensures.range)
+    (subst (λ x. GivenInRange g.C.Cost.estimate_range (g.E.Estimates.meaning x)) c.estimates.ensures c.promised.ensures.given)
     _ c.file_route.ensures
 
 pub returns-clause-stands : goal.returns-clause-stands
 returns-clause-stands g c =
-    file_stands g.C.Cost g.N.Network g.E.Estimates g.met.C.Cost.lawful (record { sections = g.met.C.Cost.sections; labels = g.met.C.Cost.labels; kinds = g.met.C.Cost.kinds }) g.met.C.Cost.totals
+    file_stands g.C.Cost g.C.PageCost.forms g.N.Network g.E.Estimates g.met.C.Cost.lawful (record { ranges = g.met.C.Cost.ranges; sections = g.met.C.PageCost.sections; labels = g.met.C.PageCost.labels; kinds = g.met.C.PageCost.kinds }) g.met.C.PageCost.totals
     c.args.run c.ranges.run.fits c.args.page.now c.args.found.now c.args.sheet.now c.args.steps.now c.args.turning.now
-    (subst (λ x. InRange g.C.Cost.parts (g.N.Network.meaning x)) c.network.ensures c.promised.ensures.range)
-    (subst (λ x. GivenInRange g.C.Cost.shown (g.E.Estimates.meaning x)) c.estimates.ensures c.promised.ensures.given)
+    (subst (λ x. InRange g.C.Cost.section_range (g.N.Network.meaning x)) c.network.ensures c.promised.ensures.range)
+    (subst (λ x. GivenInRange g.C.Cost.estimate_range (g.E.Estimates.meaning x)) c.estimates.ensures c.promised.ensures.given)
     _ c.file_route.ensures

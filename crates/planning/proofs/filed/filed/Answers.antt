@@ -1,21 +1,30 @@
-use Rattle.std.proofs.Common.{◌≡◌, true, false, cond, sym, subst, arith}
-use Rattle.planning.specs.Filed.{bytes_in}
-use Rattle.std.proofs.lemmas.Result.{IfOk-weaker}
+use Rattle.std.proofs.Common.{◌≡◌, true, false, arith, vec_items}
 use Rattle.std.proofs.lemmas.Grind.{common_steps}
 use Rattle.amounts.specs.contracts.kinds.MovesCost.TheImpl as moves
+use Rattle.amounts.specs.contracts.kinds.MovesPageCost.TheImpl as moves_page
 use Rattle.amounts.specs.contracts.kinds.SamplesCost.TheImpl as samples
+use Rattle.amounts.specs.contracts.kinds.SamplesPageCost.TheImpl as samples_page
 use Rattle.showing.specs.Shown.{says_moves}
-use Rattle.planning.specs.Claims.{FiledStands}
+use Rattle.planning.proofs.Answering.{answered_any, exact_for}
+use Rattle.planning.proofs.Naming.{filed_of_another}
 use Rattle.planning.proofs.filed.filed.Goals as goal
 
-pub returns-in-2-clause-stands : goal.returns-in-2-clause-stands
-returns-in-2-clause-stands c =
+pub returns-in-2 : goal.returns-in-2
+returns-in-2 c =
     let page = c.args.page.now in
     let so : says_moves page ≡ true = grind (arith, common_steps) in
-    IfOk-weaker c.filed_for.result _ _ (λ r stands. subst (λ b. cond b (FiledStands moves.ghosts c.args.run page (bytes_in r)) (FiledStands samples.ghosts c.args.run page (bytes_in r))) (sym so) stands) c.filed_for.ensures.stands
+    record {
+      exact = exact_for vec_items (says_moves page) true c.filed_for.result _ _ so c.filed_for.ensures.exact;
+      stands_moves = c.filed_for.ensures.stands;
+      stands_samples = answered_any vec_items c.filed_for.result _ (filed_of_another samples.ghosts samples_page.ghosts.forms page (λ long is. grind (arith, common_steps)) c.args.run);
+    }
 
-pub returns-in_default-clause-stands : goal.returns-in_default-clause-stands
-returns-in_default-clause-stands c =
+pub returns-in_default : goal.returns-in_default
+returns-in_default c =
     let page = c.args.page.now in
     let other : says_moves page ≡ false = grind (arith, common_steps) in
-    IfOk-weaker c.filed_for-in_default.result _ _ (λ r stands. subst (λ b. cond b (FiledStands moves.ghosts c.args.run page (bytes_in r)) (FiledStands samples.ghosts c.args.run page (bytes_in r))) (sym other) stands) c.filed_for-in_default.ensures.stands
+    record {
+      exact = exact_for vec_items (says_moves page) false c.filed_for-in_default.result _ _ other c.filed_for-in_default.ensures.exact;
+      stands_moves = answered_any vec_items c.filed_for-in_default.result _ (filed_of_another moves.ghosts moves_page.ghosts.forms page (λ long is. grind (arith, common_steps)) c.args.run);
+      stands_samples = c.filed_for-in_default.ensures.stands;
+    }

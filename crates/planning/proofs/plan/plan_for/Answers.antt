@@ -1,8 +1,9 @@
 use Rattle.std.proofs.Common.{string_bytes}
-use Rattle.std.proofs.lemmas.Result.{IfOk-weaker}
+use Rattle.planning.specs.Planned.{told}
+use Rattle.planning.proofs.Answering.{answered_more}
 use Rattle.planning.proofs.Telling.{plan_stands}
 use Rattle.planning.proofs.plan.plan_for.Goals as goal
 
-pub returns-in-Ok-clause-stands : goal.returns-in-Ok-clause-stands
-returns-in-Ok-clause-stands g c =
-    IfOk-weaker c.searched_text.result _ _ (λ s. plan_stands g.C.Cost c.args.page.now c.read.new.view.bytes.now (string_bytes s) c.in-Ok.ensures.filled) c.searched_text.ensures.stands
+pub returns-clause-stands : goal.returns-clause-stands
+returns-clause-stands g c =
+    answered_more string_bytes c.searched_text.result _ _ (λ r. plan_stands g.C.Cost g.C.PageCost.forms c.args.page.now c.read.new.view.bytes.now (told r) c.in_ok-read.ensures.filled) c.searched_text.ensures.stands

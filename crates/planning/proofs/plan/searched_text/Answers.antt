@@ -1,65 +1,65 @@
-use Rattle.std.proofs.Common.{◌≡◌, replicate, length, Ok, Err, inl, inr, sym, ap, ap₂, subst, ◌∙◌, string_bytes}
-use Rattle.std.proofs.lemmas.Result.{IfOk-weaker}
+use Rattle.std.proofs.Common.{◌≡◌, replicate, length, Ok, Err, inr, ap, ap₂, sym, subst, ◌∙◌, string_bytes}
 use Rattle.optimality.specs.Sheets.{blank_row}
 use Rattle.search.specs.declared.running.Finished.TheVariants as finished
 use Rattle.filing.specs.Claims.{FoundBy}
-use Rattle.planning.specs.Turns.{blank_sheet, Searched}
-use Rattle.planning.specs.Texts.{none_text, refused_text}
-use Rattle.planning.specs.Planned.{found_text}
-use Rattle.planning.specs.Claims.{RouteTold}
-use Rattle.planning.proofs.Telling.{written, answer_made, same_found, found_by, none_by, unsuited}
+use Rattle.planning.specs.Answering.{Answered}
+use Rattle.planning.specs.Turns.{calls_in_turn}
+use Rattle.search.specs.Calls.{posed}
+use Rattle.planning.specs.Texts.{none_text}
+use Rattle.planning.specs.Planned.{found_text, told}
+use Rattle.planning.specs.Claims.{Told}
+use Rattle.planning.proofs.Answering.{answered_more, passed_on}
+use Rattle.planning.proofs.Telling.{written, OnBlank, answer_made, same_found, found_by_turns, found_taken, none_stands, unsuited}
 use Rattle.planning.proofs.plan.searched_text.Given as given
 use Rattle.planning.proofs.plan.searched_text.Goals as goal
 use Rattle.planning.proofs.plan.searched_text.Goals.{After-search_in_turn}
 
--- the sheet as it was lent
-blank : (g : given.Over) (c : After-search_in_turn g) → c.as_mut_slice.result.now ≡ blank_sheet (g.N.Network.meaning c.args.net)
-blank g c =
-    c.as_mut_slice.ensures.value ∙ c.in_ok-sheet.ensures ∙ ap (λ rows. replicate rows blank_row) c.stations.ensures.count
-
-pub returns-in-Ok-Found : goal.returns-in-Ok-Found
-returns-in-Ok-Found g c =
-    let kind = g.C.Cost in
-    let found = c.in-Ok-Found.found in
-    let lent = blank g (goal.at.returns-in-Ok-Found g c).After-search_in_turn in
-    let done = c.search_in_turn in
-    let r : Searched _ _ _ _ _ = record { answer = done.result; sheet = done.new.sheet } in
-    let is = c.in-Ok-Found.is ∙ ap Ok c.in-Ok-Found.field-0-is in
-    let whole = written c.in_ok-sheet.sheet.len c.in_ok-sheet.sheet.items done.new.sheet (c.in_ok-sheet.sheet.ok.0) (done.auto.sheet ∙ ap length c.as_mut_slice.ensures.value) in
-    let sheet : c.as_slice.result.now ≡ done.new.sheet = c.as_slice.ensures.value ∙ whole in
-    let same = same_found kind g.N.Network g.E.Estimates c.args.net c.args.estimates _ lent r done.ensures.exact found is in
-    let (calls, own) = found_by kind g.N.Network g.E.Estimates c.args.net c.args.estimates _ lent r done.ensures.exact done.ensures.stands found is in
+-- the sheet is lent as nobody has written it
+on_blank : (g : given.Over) (c : After-search_in_turn g) → OnBlank g.C.Cost g.N.Network g.E.Estimates c.args.net c.args.estimates c.as_mut_slice.result.now (record { answer = c.search_in_turn.result; sheet = c.search_in_turn.new.sheet })
+on_blank g c =
     record {
-      exact = IfOk-weaker c.found_text.result _ _ (λ s made. made
-          ∙ ap₂ (λ p sheet. found_text p.kind p.net found.cost found.taken found.meeting sheet) same sheet
-          ∙ answer_made kind g.N.Network g.E.Estimates c.args.net c.args.estimates _ lent r done.ensures.exact (found_text kind (g.N.Network.meaning c.args.net)) none_text refused_text (Ok (finished.Found found)) is) c.found_text.ensures.exact;
-      stands = IfOk-weaker c.found_text.result _ _ (λ s told suits. inl (subst (λ p. RouteTold p (string_bytes s)) same told))
-          (c.found_text.ensures.stands calls (subst (FoundBy kind g.N.Network g.E.Estimates calls found) (sym sheet) own));
+      blank = c.as_mut_slice.ensures.value ∙ c.in_ok-sheet.ensures ∙ ap (λ rows. replicate rows blank_row) c.stations.ensures.count;
+      exact = c.search_in_turn.ensures.exact;
+      stands = c.search_in_turn.ensures.stands;
     }
 
-pub returns-in-Ok-NoRoute : goal.returns-in-Ok-NoRoute
-returns-in-Ok-NoRoute g c =
-    let kind = g.C.Cost in
-    let none = c.in-Ok-NoRoute.none in
-    let lent = blank g (goal.at.returns-in-Ok-NoRoute g c).After-search_in_turn in
-    let done = c.search_in_turn in
-    let r : Searched _ _ _ _ _ = record { answer = done.result; sheet = done.new.sheet } in
-    let is = c.in-Ok-NoRoute.is ∙ ap Ok c.in-Ok-NoRoute.field-0-is in
-    let no_route = (none_by kind g.N.Network g.E.Estimates c.args.net c.args.estimates _ lent r done.ensures.exact done.ensures.stands none is).1 in
+pub returns-in_err-found : goal.returns-in_err-found
+returns-in_err-found g c =
+    let on = on_blank g (goal.at.returns-in_err-found g c).After-search_in_turn in
+    let p = posed g.C.Cost g.N.Network g.E.Estimates c.args.net c.args.estimates in
+    let fault = c.in_err-found.field-0.0 in
     record {
-      exact = IfOk-weaker c.none_text.result _ _ (λ s made. made ∙ ap none_text c.taken.ensures
-          ∙ answer_made kind g.N.Network g.E.Estimates c.args.net c.args.estimates _ lent r done.ensures.exact (found_text kind (g.N.Network.meaning c.args.net)) none_text refused_text (Ok (finished.NoRoute none)) is) c.none_text.ensures;
-      stands = IfOk-weaker c.none_text.result _ _ (λ s made suits. inr (record { taken = none.taken; none = no_route; told = made ∙ ap none_text c.taken.ensures })) c.none_text.ensures;
+      exact = passed_on string_bytes _ fault _ c.from_residual-in_err-found.ensures.1 (answer_made on (Err fault) c.in_err-found.was (found_text p.kind g.C.PageCost.forms p.net) (λ taken. Ok (none_text taken)));
+      stands = passed_on string_bytes _ fault _ c.from_residual-in_err-found.ensures.1 (λ suits. absurd (unsuited on fault c.in_err-found.was suits));
+    }
+
+pub returns-in-Found : goal.returns-in-Found
+returns-in-Found g c =
+    let on = on_blank g (goal.at.returns-in-Found g c).After-search_in_turn in
+    let p = posed g.C.Cost g.N.Network g.E.Estimates c.args.net c.args.estimates in
+    let forms = g.C.PageCost.forms in
+    let found = c.in-Found.found in
+    let done = c.search_in_turn in
+    let is : done.result ≡ Ok (finished.Found found) = c.in_ok-found.was ∙ ap Ok c.in-Found.is in
+    let whole = written c.in_ok-sheet.sheet.len c.in_ok-sheet.sheet.items done.new.sheet (c.in_ok-sheet.sheet.ok.0) (done.auto.sheet ∙ ap length c.as_mut_slice.ensures.value) in
+    let sheet : c.as_slice.result.now ≡ done.new.sheet = c.as_slice.ensures.value ∙ whole in
+    record {
+      exact = answered_more string_bytes c.found_text.result _ _ (λ r made. made
+          ∙ ap₂ (λ p sheet. found_text p.kind forms p.net found.cost found.taken found.meeting sheet) (same_found on found is) sheet
+          ∙ answer_made on (Ok (finished.Found found)) is (found_text p.kind forms p.net) (λ taken. Ok (none_text taken))) c.found_text.ensures.exact;
+      stands = subst (λ p. Answered string_bytes c.found_text.result (λ r. Told p forms (told r))) (same_found on found is)
+          (c.found_text.ensures.stands (calls_in_turn p) (subst (FoundBy g.C.Cost g.N.Network g.E.Estimates (calls_in_turn p) found) (sym sheet) (found_by_turns on found is)) (found_taken on found is));
     }
 
 pub returns : goal.returns
 returns g c =
-    let kind = g.C.Cost in
-    let lent = blank g (goal.at.returns g c).After-search_in_turn in
-    let done = c.search_in_turn in
-    let r : Searched _ _ _ _ _ = record { answer = done.result; sheet = done.new.sheet } in
+    let on = on_blank g (goal.at.returns g c).After-search_in_turn in
+    let p = posed g.C.Cost g.N.Network g.E.Estimates c.args.net c.args.estimates in
+    let none = c.in-NoRoute.none in
+    let is : c.search_in_turn.result ≡ Ok (finished.NoRoute none) = c.in_ok-found.was ∙ ap Ok c.in-NoRoute.is in
+    let told : string_bytes c.in_ok-none_text-in-NoRoute.field-0 ≡ none_text none.taken = c.in_ok-none_text-in-NoRoute.ensures ∙ ap none_text c.taken.ensures in
+    let stands = none_stands on none is in
     record {
-      exact = IfOk-weaker c.refused_text.result _ _ (λ s made. made
-          ∙ answer_made kind g.N.Network g.E.Estimates c.args.net c.args.estimates _ lent r done.ensures.exact (found_text kind (g.N.Network.meaning c.args.net)) none_text refused_text (Err c.in-Err.fault) c.in-Err.is) c.refused_text.ensures;
-      stands = IfOk-weaker c.refused_text.result _ _ (λ s made suits. absurd (unsuited kind g.N.Network g.E.Estimates c.args.net c.args.estimates _ lent r done.ensures.exact done.ensures.stands c.in-Err.fault c.in-Err.is suits)) c.refused_text.ensures;
+      exact = ap Ok told ∙ answer_made on (Ok (finished.NoRoute none)) is (found_text p.kind g.C.PageCost.forms p.net) (λ taken. Ok (none_text taken));
+      stands = λ suits. inr (record { none = stands.no_route; told = told ∙ ap none_text stands.taken });
     }

@@ -10,7 +10,7 @@ use Rattle.planning.proofs.turns.search_in_turn.Goals.{After-count}
 fair : (g : given.Over) (c : After-count g) → Fair (posed g.C.Cost g.N.Network g.E.Estimates c.args.net c.args.estimates)
 fair g c =
     let kind = g.met.C.Cost in
-    fair_of (posed g.C.Cost g.N.Network g.E.Estimates c.args.net c.args.estimates) kind.lawful kind.sections kind.labels c.stations-stations.ensures.range c.count.ensures.range
+    fair_of (posed g.C.Cost g.N.Network g.E.Estimates c.args.net c.args.estimates) kind.lawful kind.ranges c.stations-stations.ensures.range c.count.ensures.range
 
 pub returns-in_err-search : goal.returns-in_err-search
 returns-in_err-search g c =

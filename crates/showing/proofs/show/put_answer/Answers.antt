@@ -8,17 +8,18 @@ use Rattle.showing.proofs.show.put_answer.Goals as goal
 
 pub returns-in_default : goal.returns-in_default
 returns-in_default g c =
-    let o = answer_of g.C.Cost c.args.view.now.bytes.now in
-    rw (answer_none g.C.Cost o (sym c.answer.ensures ∙ c.in_default.is)) (sym (append-nil _))
+    let o = answer_of g.C.Cost g.C.PageCost.forms c.args.view.now.bytes.now in
+    rw (answer_none g.C.Cost g.C.PageCost.forms o (sym c.answer.ensures ∙ c.in_default.is)) (sym (append-nil _))
 
 pub returns : goal.returns
 returns g c =
     let k = g.C.Cost in
-    let o = answer_of k c.args.view.now.bytes.now in
-    let text : ℕ → List ℕ = λ i. line_of (step_line k) (step_in o i) in
-    let told = answer_some k o c.in-Some.answer (sym c.answer.ensures ∙ c.in-Some.is) in
+    let forms = g.C.PageCost.forms in
+    let o = answer_of k forms c.args.view.now.bytes.now in
+    let text : ℕ → List ℕ = λ i. line_of (step_line k forms) (step_in o i) in
+    let told = answer_some k forms o c.in-Some.answer (sym c.answer.ensures ∙ c.in-Some.is) in
     let out = string_bytes c.args.out.now in
-    let line = answer_line k c.in-Some.answer in
+    let line = answer_line k forms c.in-Some.answer in
     let rest = lines text c.in-Some.answer.steps in
     let put = c.in_ok-push_str.ensures.bytes ∙ ap (λ t. out ++ t) (c.as_str.ensures.value ∙ c.in_ok-answer_line.ensures) in
     on_ok_weaker c.put_lines.result

@@ -17,10 +17,10 @@ returns g c =
     let some : o ≡ Some m = ap (option_map meant_of) c.in-Some.is in
     let size = ap answer_size some in
     let steps = c.in-Some.answer.steps.now in
-    let put = c.put_run.ensures (map (step_record g.C.Cost) steps) (record { many = length-map steps (step_record g.C.Cost); each = λ k o h made. search rules }) in
+    let put = c.put_run.ensures (map (step_record g.C.Cost g.C.PageCost.forms) steps) (record { many = length-map steps (step_record g.C.Cost g.C.PageCost.forms); each = λ k o h made. search rules }) in
     record {
       end = put.0 ∙ omega arith;
       run = subst RunFits (sym some) c.answer_body.ensures.run;
-      page = some_put g.C.Cost c.args.page.now c.args.at o m c.put-end.result some
+      page = some_put g.C.Cost g.C.PageCost.forms c.args.page.now c.args.at o m c.put-end.result some
           (c.put-end.ensures.page ∙ ap (λ a. overlay c.args.page.now c.args.at (encoded answer_shape a)) c.answer_body.ensures.body) put.1 c.put-end.ensures.end (omega arith);
     }

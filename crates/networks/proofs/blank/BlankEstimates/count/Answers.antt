@@ -6,9 +6,9 @@ use Rattle.networks.proofs.blank.BlankEstimates.count.Goals as goal
 
 pub returns : goal.returns
 returns g c =
-    let zero_shown = g.met.C.Cost.labels.zero_shown in
+    let zero = g.met.C.Cost.ranges.zero in
     record {
       count = c.self.view_is ∙ sym (length-replicate _ _);
-      range = recursion_from_All _ _ (All-replicate (PairInRange g.C.Cost.shown) c.args.self.now _ (record { forward = (_, zero_shown); backward = (_, zero_shown) }));
+      range = recursion_from_All _ _ (All-replicate (PairInRange g.C.Cost.estimate_range) c.args.self.now _ (record { forward = zero; backward = zero }));
       within = rw (← c.self.view_is) c.self.invariant;
     }

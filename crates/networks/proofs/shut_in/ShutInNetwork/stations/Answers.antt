@@ -6,5 +6,5 @@ returns g c =
     let s = c.args.self.now in
     record {
       count = c.stations.ensures.count;
-      range = range_shut s.kept.items g.C.Cost.parts (g.N.Network.meaning s.below) c.stations.ensures.range;
+      range = range_shut s.kept.items g.C.Cost.section_range (g.N.Network.meaning s.below) c.stations.ensures.range;
     }

@@ -15,6 +15,6 @@ returns g c =
     let bs = v.bytes.now in
     let n = (header_of bs).stations in
     record {
-      count = c.from.ensures ∙ ap (λ h. h.stations) v.headed ∙ sym (length-map (decoded_run estimate_shape n (estimate_bytes bs)) (pair_from g.C.Cost) ∙ length-decoded_run estimate_shape n (estimate_bytes bs));
-      range = pairs_range g.C.Cost v.header.kind bs (view_bytes v) (view_accepted v) g.met.C.Cost.labels;
+      count = c.from.ensures ∙ ap (λ h. h.stations) v.headed ∙ sym (length-map (decoded_run estimate_shape n (estimate_bytes bs)) (pair_from g.C.Cost g.C.PageCost.forms) ∙ length-decoded_run estimate_shape n (estimate_bytes bs));
+      range = pairs_range g.C.Cost g.C.PageCost.forms v.header.kind bs (view_bytes v) (view_accepted v) g.met.C.PageCost.labels;
     }

@@ -12,4 +12,4 @@ returns g c =
     let v = c.args.self.now in
     let bs = v.bytes.now in
     let n = (header_of bs).sections in
-    c.from.ensures ∙ ap (λ h. h.sections) v.headed ∙ sym (length-map (decoded_run section_shape n (section_bytes bs)) (section_from g.C.Cost) ∙ length-decoded_run section_shape n (section_bytes bs))
+    c.from.ensures ∙ ap (λ h. h.sections) v.headed ∙ sym (length-map (decoded_run section_shape n (section_bytes bs)) (section_from g.C.Cost g.C.PageCost.forms) ∙ length-decoded_run section_shape n (section_bytes bs))

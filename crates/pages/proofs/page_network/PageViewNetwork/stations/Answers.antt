@@ -8,5 +8,5 @@ returns g c =
     let v = c.args.self.now in
     record {
       count = c.from.ensures ∙ ap (λ h. h.stations) v.headed;
-      range = net_range g.C.Cost v.header.kind v.bytes.now (view_bytes v) (view_accepted v) g.met.C.Cost.sections.range_kept;
+      range = net_range g.C.Cost g.C.PageCost.forms v.header.kind v.bytes.now (view_bytes v) (view_accepted v) g.met.C.PageCost.sections.in_range;
     }

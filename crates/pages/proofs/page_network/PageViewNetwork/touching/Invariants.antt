@@ -8,6 +8,6 @@ use Rattle.pages.proofs.page_network.PageViewNetwork.touching.Given as goal
 -- what is still to come
 abbrev pub invariant-loop-number : goal.invariant-loop-number
 invariant-loop-number g l =
-    let sections = (net_of g.C.Cost l.self.bytes.now).sections in
+    let sections = (net_of g.C.Cost g.C.PageCost.forms l.self.bytes.now).sections in
     let test = starts l.side l.station in
     coming test sections l.number l.left ≡ slice_get (numbers test 0 sections) l.k

@@ -9,7 +9,8 @@ returns g c =
     let v = c.args.self.now in
     let bs = v.bytes.now in
     let k = g.C.Cost in
-    let range = net_range k v.header.kind bs (view_bytes v) (view_accepted v) g.met.C.Cost.sections.range_kept in
-    let told = retold_page k g.met.C.Cost.lawful g.met.C.Cost.sections bs (answer_bytes_all bs (view_bytes v)) range in
+    let forms = g.C.PageCost.forms in
+    let range = net_range k forms v.header.kind bs (view_bytes v) (view_accepted v) g.met.C.PageCost.sections.in_range in
+    let told = retold_page k forms g.met.C.Cost.lawful g.met.C.Cost.ranges bs (answer_bytes_all bs (view_bytes v)) range in
     let exact = c.holds.ensures in
     record { exact = exact; holds = (λ e. told.0 (sym exact ∙ e), λ t. exact ∙ told.1 t) }

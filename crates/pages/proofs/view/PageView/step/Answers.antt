@@ -25,20 +25,22 @@ pub returns-in_err-body : goal.returns-in_err-body
 returns-in_err-body g c =
     let bs = c.args.self.now.bytes.now in
     let k = g.C.Cost in
+    let forms = g.C.PageCost.forms in
     let a = c.in_ok-answer.answer in
     let run = decoded_run step_shape a.steps (step_bytes (answer_bytes bs)) in
     let read = steps_read bs c.answer_at.result c.from.result a.steps c.args.k c.nth_record.result c.nth_record.ensures c.answer_at.ensures c.from.ensures in
     c.from_residual-in_err-body.ensures
-    ∙ mapped_none (step_from k (net_of k bs).sections) run c.args.k (sym c.in_err-body.was ∙ read)
-    ∙ ap (λ o. step_in o c.args.k) (answer_some k bs a (sym c.in_ok-answer.was ∙ c.answer_record.ensures))
+    ∙ mapped_none (step_from k forms (net_of k forms bs).sections) run c.args.k (sym c.in_err-body.was ∙ read)
+    ∙ ap (λ o. step_in o c.args.k) (answer_some k forms bs a (sym c.in_ok-answer.was ∙ c.answer_record.ensures))
 
 pub returns : goal.returns
 returns g c =
     let bs = c.args.self.now.bytes.now in
     let k = g.C.Cost in
+    let forms = g.C.PageCost.forms in
     let a = c.in_ok-answer.answer in
     let run = decoded_run step_shape a.steps (step_bytes (answer_bytes bs)) in
     let read = steps_read bs c.answer_at.result c.from.result a.steps c.args.k c.nth_record.result c.nth_record.ensures c.answer_at.ensures c.from.ensures in
     ap Some c.step_from.ensures
-    ∙ mapped_some (step_from k (net_of k bs).sections) run c.args.k c.in_ok-body.body (sym c.in_ok-body.was ∙ read)
-    ∙ ap (λ o. step_in o c.args.k) (answer_some k bs a (sym c.in_ok-answer.was ∙ c.answer_record.ensures))
+    ∙ mapped_some (step_from k forms (net_of k forms bs).sections) run c.args.k c.in_ok-body.body (sym c.in_ok-body.was ∙ read)
+    ∙ ap (λ o. step_in o c.args.k) (answer_some k forms bs a (sym c.in_ok-answer.was ∙ c.answer_record.ensures))

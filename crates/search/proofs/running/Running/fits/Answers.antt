@@ -12,7 +12,7 @@ returns-then-size-le-LIGHT g c =
     let net = g.N.Network.meaning c.args.self.now.net in
     let f = c.args.front.now in
     let cost = g.met.C.Cost in
-    sym (spread_light g.C.Cost cost.lawful net c.args.side f.label (omega (arith, c.size.ensures, c.if-size-le-LIGHT.true)) (λ k s e. (section_fit g.C.Cost net c.requires.range cost.sections k s e).small) (starters c.args.side net f.station) _)
+    sym (spread_light g.C.Cost cost.lawful net c.args.side f.label (omega (arith, c.size.ensures, c.if-size-le-LIGHT.true)) (λ k s e. (section_fit g.C.Cost net c.requires.range cost.ranges k s e).small) (starters c.args.side net f.station) _)
 
 pub loop-k-init : goal.loop-k-init
 loop-k-init g c = followed_none g.C.Cost c.args.side (g.N.Network.meaning c.args.self.now.net) c.args.front.now (standing c.args.self.now c.args.own.now)

@@ -9,7 +9,7 @@ pub returns-then-number-section_count : goal.returns-then-number-section_count
 returns-then-number-section_count g c =
     let t = c.args.self.now in
     let range = c.section_count.ensures.range in
-    let made = g.C.Cost.made in
+    let made = g.C.PageCost.forms.made in
     let n = c.args.number in
     let l : n < section_count t = omega arith in
     record {
@@ -21,7 +21,7 @@ pub returns-else-number-section_count : goal.returns-else-number-section_count
 returns-else-number-section_count g c =
     let t = c.args.self.now in
     let range = c.section_count.ensures.range in
-    let made = g.C.Cost.made in
+    let made = g.C.PageCost.forms.made in
     let n = c.args.number in
     let l : section_count t ≤ n = omega arith in
     record { exact = nth_counting_past (numbered made t) (section_count t) n l; drawn = drawn_past made t range n l }

@@ -1,5 +1,5 @@
 use Rattle.std.proofs.Common.{◌≡◌, ℕ, ◌*◌, eqb, refl, arith}
-use Rattle.amounts.specs.declared.cost.SectionForm.{SectionForm}
+use Rattle.amounts.specs.declared.forms.SectionForm.{SectionForm}
 use Rattle.faults.specs.declared.Side.{Side}
 use Rattle.faults.specs.declared.Side.TheVariants.{Forward, Backward}
 use Rattle.networks.specs.Nets.{starts}
@@ -15,7 +15,7 @@ same made t Backward station i = refl
 pub returns : goal.returns
 returns g c =
     let t = c.args.self.now in
-    let made = g.C.Cost.made in
+    let made = g.C.PageCost.forms.made in
     let side = c.args.side in
     let station = c.args.station in
     record {
