@@ -1,34 +1,18 @@
 //! A kind of cost that no page holds, and a network in it.
-ghost use Rattle.std.specs.Prelude.{◌≡◌, ◌+◌, ◌^◌, ◌<◌, ◌≤◌, false, [], ◌∷◌, pos, ◌+ℤ◌, ◌-ℤ◌, int_le, unsigned_abs, refl};
-ghost use Rattle.std.proofs.Math.IntN.{+ℤ_comm, +ℤ_assoc, +ℤ-neg_ℤ_cancel, -ℤ-+ℤ_cancel};
-ghost use Rattle.std.proofs.Common.{inl, inr, ⊎_elim, arith, rules};
-ghost use Rattle.std.proofs.lemmas.Int.{ints};
-ghost use Rattle.std.proofs.lemmas.Bool.{cases_Bool};
+ghost use Rattle.std.specs.Prelude.{◌^◌, ◌<◌, false, [], ◌∷◌, pos, unsigned_abs, refl};
+ghost use Rattle.std.proofs.Common.{rules};
+ghost use Rattle.amounts.specs.Kinds.{samples};
+ghost use Rattle.amounts.specs.contracts.kinds.SamplesCost.TheImpl.Laws.{lawful-law};
 
 use amounts::cost::Cost;
-use amounts::limits::fit;
+use amounts::kinds::Samples;
 use faults::Side;
 use networks::network::Network;
 use networks::section::Section;
 
-/// Kind 7: whole crew hours. Its amounts have no forms on a page, and an estimate may be below zero.
+/// Kind 7: whole crew hours, which add up as samples do. Its amounts have no forms on a page, and an estimate may be
+/// below zero.
 pub(crate) struct Hours;
-
-/// The sum of two numbers within the limit.
-fn sum(a: i64, b: i64) -> i64
-    requires { unsigned_abs a + unsigned_abs b ≤ 2 ^ 60 }
-    ensures { result ≡ a +ℤ b }
-{
-    a + b
-}
-
-/// The difference of two numbers within the limit.
-fn difference(a: i64, b: i64) -> i64
-    requires { unsigned_abs a + unsigned_abs b ≤ 2 ^ 60 }
-    ensures { result ≡ a -ℤ b }
-{
-    a - b
-}
 
 impl Cost for Hours {
     type Label = i64;
@@ -43,7 +27,7 @@ impl Cost for Hours {
 
     ghost KIND = { 7 };
 
-    ghost ops = { record { zero = pos 0; plus = ◌+ℤ◌; minus = ◌-ℤ◌; leb = int_le; size = unsigned_abs } };
+    ghost ops = { samples };
 
     ghost worth = { pos };
 
@@ -53,47 +37,24 @@ impl Cost for Hours {
 
     ghost zero = { refl };
 
-    ghost lawful = { record {
-      comm = +ℤ_comm;
-      assoc = +ℤ_assoc;
-      unit = λ a. omega (arith, ints);
-      add_sub = +ℤ-neg_ℤ_cancel;
-      sub_add = -ℤ-+ℤ_cancel;
-      le_refl = λ a. Prim.grind (arith, ints);
-      le_anti = λ a b h k. Prim.grind (arith, ints);
-      le_trans = λ a b c h k. Prim.grind (arith, ints);
-      le_total = λ a b. ⊎_elim inl (λ h. inr (Prim.grind (arith, ints))) (cases_Bool (int_le a b));
-      le_plus = λ a b c h. Prim.grind (arith, ints);
-      le_cancel = λ a b c h. Prim.grind (arith, ints);
-      size_zero = refl;
-      size_plus = λ a b. Prim.grind (arith, ints);
-      size_minus = λ a b. Prim.grind (arith, ints);
-    } };
+    ghost lawful = { lawful-law };
 
     ghost ranges = { Prim.search rules };
 
     fn size(a: i64) -> u64 {
-        a.unsigned_abs()
+        Samples::size(a)
     }
 
     fn at_most(a: i64, b: i64) -> bool {
-        a <= b
+        Samples::at_most(a, b)
     }
 
     fn sum(a: i64, b: i64) -> i64 {
-        if fit(Self::size(a), Self::size(b)) {
-            sum(a, b)
-        } else {
-            0
-        }
+        Samples::sum(a, b)
     }
 
     fn difference(a: i64, b: i64) -> i64 {
-        if fit(Self::size(a), Self::size(b)) {
-            difference(a, b)
-        } else {
-            0
-        }
+        Samples::difference(a, b)
     }
 
     fn worth(s: u16) -> i64 {
