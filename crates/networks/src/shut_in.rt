@@ -21,6 +21,7 @@ pub const ROOM: usize = 64;
 pub struct ShutIn<N> {
     below: N,
     kept: ArrayVec<usize, ROOM>,
+    ghost within: { length kept.items ≤ 64 },
     ghost once: { EachOnce kept.items },
 }
 

@@ -64,6 +64,8 @@ impl<C: PageCost> PageView<'_, C> {
     }
 
     /// The k-th step of the answer, from 0.
+    // Inlined, so that a loop over the steps looks at the answer's record once.
+    #[inline]
     pub fn step(&self, k: usize) -> Option<Step<C::Label>>
         ensures { result ≡ step_in (answer_of C.Cost C.forms self.now.bytes.now) k }
     {

@@ -58,7 +58,7 @@ impl Record<{ SectionRecord::SIZE }> for SectionRecord {
         let [state] = self.state.to_be_bytes();
         let [f1, f0] = self.from.to_be_bytes();
         let [t1, t0] = self.to.to_be_bytes();
-        let [m1, m0, s3, s2, s1, s0] = section_bytes(self.amount);
+        let ([m1, m0], [s3, s2, s1, s0]) = section_bytes(self.amount);
         [Self::KIND, state, f1, f0, t1, t0, m1, m0, s3, s2, s1, s0]
     }
 }
@@ -166,8 +166,8 @@ impl Record<{ EstimateRecord::SIZE }> for EstimateRecord {
 
     fn bytes(&self) -> [u8; EstimateRecord::SIZE] {
         let kind = Self::KIND;
-        let [m3, m2, m1, m0, s5, s4, s3, s2, s1, s0] = label_bytes(self.forward);
-        let [n3, n2, n1, n0, t5, t4, t3, t2, t1, t0] = label_bytes(self.backward);
+        let ([m3, m2, m1, m0], [s5, s4, s3, s2, s1, s0]) = label_bytes(self.forward);
+        let ([n3, n2, n1, n0], [t5, t4, t3, t2, t1, t0]) = label_bytes(self.backward);
         [
             kind, m3, m2, m1, m0, s5, s4, s3, s2, s1, s0, n3, n2, n1, n0, t5, t4, t3, t2, t1, t0,
         ]
@@ -230,7 +230,7 @@ impl Record<{ AnswerRecord::SIZE }> for AnswerRecord {
         let kind = Self::KIND;
         let [r3, r2, r1, r0] = self.run.to_be_bytes();
         let [outcome] = self.outcome.to_be_bytes();
-        let [m3, m2, m1, m0, s5, s4, s3, s2, s1, s0] = label_bytes(self.cost);
+        let ([m3, m2, m1, m0], [s5, s4, s3, s2, s1, s0]) = label_bytes(self.cost);
         let [n1, n0] = self.steps.to_be_bytes();
         let [t1, t0] = self.taken.to_be_bytes();
         [
@@ -279,7 +279,7 @@ impl Record<{ StepRecord::SIZE }> for StepRecord {
 
     fn bytes(&self) -> [u8; StepRecord::SIZE] {
         let [n1, n0] = self.section.to_be_bytes();
-        let [m3, m2, m1, m0, s5, s4, s3, s2, s1, s0] = label_bytes(self.so_far);
+        let ([m3, m2, m1, m0], [s5, s4, s3, s2, s1, s0]) = label_bytes(self.so_far);
         [Self::KIND, n1, n0, m3, m2, m1, m0, s5, s4, s3, s2, s1, s0]
     }
 }

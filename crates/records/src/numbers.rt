@@ -1,5 +1,5 @@
 //! Amounts in bytes, high byte first.
-ghost use Rattle.std.specs.Prelude.{◌≡◌, ◌++◌};
+ghost use Rattle.std.specs.Prelude.{◌≡◌};
 ghost use Rattle.amounts.specs.Forms.{section_form, label_form};
 ghost use Rattle.records.specs.Bytes.{number_at, bytes_of};
 
@@ -16,12 +16,11 @@ pub(crate) fn section_of(bytes: [u8; 6]) -> SectionForm
     }
 }
 
-pub(crate) fn section_bytes(form: SectionForm) -> [u8; 6]
-    ensures { result ≡ bytes_of 2 form.moves ++ bytes_of 4 form.samples }
+// Each number in an array of its own: LLVM writes those of one array byte by byte.
+pub(crate) fn section_bytes(form: SectionForm) -> ([u8; 2], [u8; 4])
+    ensures { result ≡ (bytes_of 2 form.moves, bytes_of 4 form.samples) }
 {
-    let [m1, m0] = form.moves.to_be_bytes();
-    let [s3, s2, s1, s0] = form.samples.to_be_bytes();
-    [m1, m0, s3, s2, s1, s0]
+    (form.moves.to_be_bytes(), form.samples.to_be_bytes())
 }
 
 /// Any other amount: moves in four bytes, samples in six.
@@ -36,10 +35,9 @@ pub(crate) fn label_of(bytes: [u8; 10]) -> LabelForm
 }
 
 /// Of the samples, the low six bytes.
-pub(crate) fn label_bytes(form: LabelForm) -> [u8; 10]
-    ensures { result ≡ bytes_of 4 form.moves ++ bytes_of 6 form.samples }
+pub(crate) fn label_bytes(form: LabelForm) -> ([u8; 4], [u8; 6])
+    ensures { result ≡ (bytes_of 4 form.moves, bytes_of 6 form.samples) }
 {
-    let [m3, m2, m1, m0] = form.moves.to_be_bytes();
     let [_, _, s5, s4, s3, s2, s1, s0] = form.samples.to_be_bytes();
-    [m3, m2, m1, m0, s5, s4, s3, s2, s1, s0]
+    (form.moves.to_be_bytes(), [s5, s4, s3, s2, s1, s0])
 }

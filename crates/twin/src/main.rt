@@ -6,7 +6,7 @@ mod report;
 
 use crate::asked::Asked;
 use crate::report::answer;
-use std::env;
+use std::{env, fmt};
 
 /// The words on the command line as numbers; absent where one is no number.
 fn numbers(rt: &HostRuntime) -> anyhow::Result<Option<Vec<u64>>> {
@@ -22,7 +22,9 @@ fn numbers(rt: &HostRuntime) -> anyhow::Result<Option<Vec<u64>>> {
 
 fn run(rt: &HostRuntime) -> anyhow::Result<()> {
     let asked = numbers(rt)?.and_then(|numbers| Asked::by(numbers.as_slice()));
-    rt.print(answer(rt.alloc(), asked)?)?;
+    // Where the text finds no memory, the message is that of a text that was not made.
+    let text = answer(rt.alloc(), asked).map_err(|_| fmt::Error)?;
+    rt.print(text)?;
     Ok(())
 }
 

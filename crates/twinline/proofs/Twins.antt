@@ -1,14 +1,15 @@
 -- The twin line's sections: where they are, and that they are in range.
-use Rattle.std.proofs.Common.{◌≡◌, ℕ, ◌+◌, ◌-◌, ◌*◌, ◌/◌, ◌<◌, ◌≤◌, ltb, map, Some, None, sym, le-div_iff_mul-le, div-le_self, arith, lit<}
+use Rattle.std.proofs.Common.{◌≡◌, ℕ, zero, suc, ◌+◌, ◌-◌, ◌*◌, ◌/◌, ◌<◌, ◌≤◌, ltb, map, Some, None, sym, le-div_iff_mul-le, div-le_self, arith, lit<}
 use Rattle.std.specs.List.{range_with_len, AllByRecursion, slice_get}
 use Rattle.std.proofs.lemmas.List.FromFn.{length-map-range_with_len, get_or-map-range_with_len}
-use Rattle.std.proofs.lemmas.List.Elements.{recursion_from_All}
 use Rattle.std.proofs.lemmas.Option.{slice_get_read, slice_get_past}
 use Rattle.std.proofs.lemmas.Bool.{cond_both}
 use Rattle.std.proofs.lemmas.Bool.Decides.{nat_tests}
 use Rattle.networks.specs.Nets.{SectionInRange, InRange}
 use Rattle.amounts.specs.Forms.{SectionRange, section_form}
 use Rattle.amounts.specs.declared.forms.SectionForm.{SectionForm}
+use Rattle.twinline.specs.declared.twin_line.TwinLine.{TwinLine}
+use Rattle.twinline.specs.Held.{line_of}
 use Rattle.twinline.specs.Twin.{Line, LineRange, along, section_count, amount_of, numbered, twin_net, cross_place}
 
 module _ {X : Type 0} (f : ℕ → X) where
@@ -18,8 +19,13 @@ module _ {X : Type 0} (f : ℕ → X) where
   pub nth_counting_past : (n i : ℕ) → n ≤ i → None ≡ slice_get (map f (range_with_len 0 n)) i
   nth_counting_past n i h = sym (slice_get_past (map f (range_with_len 0 n)) i (rw (length-map-range_with_len f 0 n) h))
 
-  all_counting : (P : X → Type 0) (n : ℕ) → ((i : ℕ) → i < n → P (f i)) → AllByRecursion P (map f (range_with_len 0 n))
-  all_counting P n h = recursion_from_All P _ (λ i d l. let m : i < n = omega (arith, length-map-range_with_len f 0 n) in rw (get_or-map-range_with_len f 0 n i i d m (omega arith)) (h i m))
+  pub all_counting : (P : X → Type 0) (a n : ℕ) → ((i : ℕ) → a ≤ i → i < a + n → P (f i)) → AllByRecursion P (map f (range_with_len a n))
+  all_counting P a zero h = tt
+  all_counting P a (suc n) h = (h a (omega arith) (omega arith), all_counting P (a + 1) n (λ i l m. h i (omega arith) (omega arith)))
+
+-- every line at hand is in its range
+pub line_range : (t : TwinLine) → LineRange (line_of t)
+line_range t = record { counted = t.counted; spaced = t.spaced; fit = t.fit }
 
 module _ (t : Line) (r : LineRange t) where
   -- a crossing's place is on the line
@@ -48,5 +54,5 @@ module _ {S : Type 0} (range : S → Type 0) (made : SectionForm → S) (kept : 
     launcher = omega arith;
     trap = omega arith;
     short = rw (length-map-range_with_len (numbered made t) 0 (section_count t)) (omega (arith, div-le_self (along t) t.spacing));
-    each = all_counting (numbered made t) (SectionInRange range (2 * t.count)) (section_count t) within;
+    each = all_counting (numbered made t) (SectionInRange range (2 * t.count)) 0 (section_count t) (λ i _ h. within i (omega arith));
   }

@@ -1,3 +1,4 @@
 pub mod Twin
+pub mod Held
 pub mod Drawn
 pub mod Touching

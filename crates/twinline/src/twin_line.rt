@@ -1,5 +1,5 @@
 //! A line of two parallel pipes with crossovers at even spaces: worked out by formula, not stored.
-ghost use Rattle.std.specs.Prelude.{◌≡◌, ◌*◌, ◌<◌, ◌↔◌, [], Some};
+ghost use Rattle.std.specs.Prelude.{◌≡◌, ◌*◌, ◌^◌, ◌<◌, ◌≤◌, ◌↔◌, [], Some};
 ghost use Rattle.std.specs.List.{slice_get};
 ghost use Rattle.std.specs.Result.{result_err};
 ghost use Rattle.faults.specs.Reasons.{FirstReason};
@@ -7,7 +7,8 @@ ghost use Rattle.faults.specs.declared.Layer.TheVariants as layer;
 ghost use Rattle.amounts.specs.Forms.{section_form};
 ghost use Rattle.networks.specs.declared.section.Section.{Section as Part};
 ghost use Rattle.networks.specs.Nets.{InRange};
-ghost use Rattle.twinline.specs.Twin.{Line, LineRange, line, line_drawn, drawing_reasons, twin_net, numbered as section_by, along as along_of, section_count, end_of, open_section};
+ghost use Rattle.networks.specs.Ranges.{on_ok};
+ghost use Rattle.twinline.specs.Twin.{LineRange, line_drawn, drawing_reasons, twin_net, numbered as section_by, along as along_of, section_count, end_of, open_section};
 ghost use Rattle.twinline.specs.Drawn.{Drawn};
 ghost use Rattle.twinline.specs.Touching.{Only, Crossing, or_none};
 
@@ -16,7 +17,6 @@ use amounts::sampling::{length_fits, rate_fits, samples_of};
 use faults::{Fault, Side, in_range};
 use networks::network::Network;
 use networks::section::Section;
-use std::marker::Model;
 
 /// The most stations a pipe, and the widest spacing.
 pub const LONGEST_PIPE: usize = 2048;
@@ -33,6 +33,7 @@ pub struct Drawing {
 }
 
 /// Stations a pipe, the spacing of the crossovers, and the samples of each sort of section.
+// Kept: no model. A value at hand shows its ranges with no call, and a `Copy` struct that holds a line is copied.
 #[derive(Clone, Copy, Debug, PartialEq, Eq)]
 pub struct TwinLine {
     count: usize,
@@ -40,16 +41,9 @@ pub struct TwinLine {
     upper: u32,
     lower: u32,
     crossover: u32,
-}
-
-impl Model for TwinLine {
-    ghost Value = { Line };
-
-    ghost view = { λ t. line t.count t.spacing t.upper t.lower t.crossover };
-
-    ghost invariant = { λ t. LineRange (line t.count t.spacing t.upper t.lower t.crossover) };
-
-    ghost inverse = { λ l. record { count = l.count; spacing = l.spacing; upper = l.upper; lower = l.lower; crossover = l.crossover } };
+    ghost counted: { (1 ≤ count) × (count ≤ 2048) },
+    ghost spaced: { (1 ≤ spacing) × (spacing ≤ 2048) },
+    ghost fit: { (upper < 2 ^ 32) × (lower < 2 ^ 32) × (crossover < 2 ^ 32) },
 }
 
 fn open_section<A>(from: usize, to: usize, amount: A) -> Section<A>
@@ -70,16 +64,24 @@ fn amount<C: PageCost>(moves: u16, samples: u32) -> C::Section
 }
 
 /// The k-th of two numbers, either of which may be absent.
+// Kept: a match. With `chain` and `nth`, asking for a station's sections in turn takes more than twice as long.
 fn kth(first: Option<usize>, second: Option<usize>, k: usize) -> Option<usize>
     ensures { result ≡ slice_get (or_none first (or_none second [])) k }
 {
-    first.into_iter().chain(second).nth(k)
+    match (first, k) {
+        (Some(number), 0) => Some(number),
+        (Some(_), 1) | (None, 0) => second,
+        _ => None,
+    }
 }
 
 impl TwinLine {
+    ghost use Rattle.twinline.specs.Held.{line_of};
+
     /// The twin line of a drawing, or the first parameter that breaks its range.
+    #[inline]
     pub fn new(drawing: Drawing) -> Result<TwinLine, Fault>
-        ensures exact { result ≡ line_drawn drawing }
+        ensures exact { on_ok line_of result ≡ line_drawn drawing }
         ensures reasons { FirstReason layer.Network (drawing_reasons drawing) (result_err result) }
     {
         let Drawing {
@@ -107,14 +109,15 @@ impl TwinLine {
 
     /// The section along a pipe to which a side comes at the station.
     fn along(&self, side: Side, station: usize) -> Option<usize>
-        ensures { Only (end_of self.now side) station 0 (2 * along_of self.now) result }
+        ensures { Only (end_of (line_of self.now) side) station 0 (2 * along_of (line_of self.now)) result }
     {
         let count = self.count;
+        // Kept: comparisons. With `contains` of a range, asking for a station's sections takes a quarter longer.
         match side {
             Side::Forward if station < count - 1 => Some(station),
-            Side::Forward if (count..2 * count - 1).contains(&station) => Some(station - 1),
-            Side::Backward if (1..count).contains(&station) => Some(station - 1),
-            Side::Backward if (count + 1..2 * count).contains(&station) => Some(station - 2),
+            Side::Forward if station >= count && station < 2 * count - 1 => Some(station - 1),
+            Side::Backward if station > 0 && station < count => Some(station - 1),
+            Side::Backward if station > count && station < 2 * count => Some(station - 2),
             _ => None,
         }
     }
@@ -122,7 +125,7 @@ impl TwinLine {
     /// The section across at this place of the line, down or up.
     fn crossing(&self, place: usize, down: bool) -> Option<usize>
         requires { place < self.now.count }
-        ensures { Crossing self.now place down result }
+        ensures { Crossing (line_of self.now) place down result }
     {
         if place % self.spacing != 0 {
             return None;
@@ -133,7 +136,7 @@ impl TwinLine {
 
     /// The section across to which a side comes at the station.
     fn across(&self, side: Side, station: usize) -> Option<usize>
-        ensures { Only (end_of self.now side) station (2 * along_of self.now) (section_count self.now) result }
+        ensures { Only (end_of (line_of self.now) side) station (2 * along_of (line_of self.now)) (section_count (line_of self.now)) result }
     {
         if station < self.count {
             self.crossing(station, side == Side::Forward)
@@ -146,8 +149,8 @@ impl TwinLine {
 
     /// How many sections there are, along and across.
     fn section_count(&self) -> usize
-        ensures value { result ≡ section_count self.now }
-        ensures range { LineRange self.now }
+        ensures value { result ≡ section_count (line_of self.now) }
+        ensures range { LineRange (line_of self.now) }
     {
         let along = self.count - 1;
         2 * along + 2 * (along / self.spacing + 1)
@@ -155,8 +158,8 @@ impl TwinLine {
 
     /// The numbered section: along the upper pipe, along the lower one, or across.
     fn numbered<C: PageCost>(&self, number: usize) -> Section<C::Section>
-        requires { number < section_count self.now }
-        ensures { result ≡ section_by C.forms.made self.now number }
+        requires { number < section_count (line_of self.now) }
+        ensures { result ≡ section_by C.forms.made (line_of self.now) number }
     {
         let count = self.count;
         let along = count - 1;
@@ -179,13 +182,15 @@ impl TwinLine {
 }
 
 impl<C: PageCost> Network<C> for TwinLine {
-    ghost meaning = { twin_net C.forms.made };
+    ghost use Rattle.twinline.specs.Held.{line_of};
+
+    ghost meaning = { λ t. twin_net C.forms.made (line_of t) };
 
     /// What the line holds is always in its range.
     fn stations(&self) -> usize
-        ensures count { result ≡ (twin_net C.forms.made self.now).stations }
-        ensures range { InRange C.Cost.section_range (twin_net C.forms.made self.now) }
-        ensures line { LineRange self.now }
+        ensures count { result ≡ (twin_net C.forms.made (line_of self.now)).stations }
+        ensures range { InRange C.Cost.section_range (twin_net C.forms.made (line_of self.now)) }
+        ensures line { LineRange (line_of self.now) }
     {
         2 * self.count
     }
@@ -204,8 +209,8 @@ impl<C: PageCost> Network<C> for TwinLine {
 
     /// The section that is drawn under this number, if any is.
     fn section(&self, number: usize) -> Option<Section<C::Section>>
-        ensures exact { result ≡ slice_get (twin_net C.forms.made self.now).sections number }
-        ensures drawn { (s : Part C.Section) → (result ≡ Some s) ↔ Drawn C.forms.made self.now number s }
+        ensures exact { result ≡ slice_get (twin_net C.forms.made (line_of self.now)).sections number }
+        ensures drawn { (s : Part C.Section) → (result ≡ Some s) ↔ Drawn C.forms.made (line_of self.now) number s }
     {
         if number < self.section_count() {
             Some(self.numbered::<C>(number))

@@ -1,4 +1,4 @@
-use Rattle.std.proofs.Common.{sym, ◌∙◌}
+use Rattle.std.proofs.Common.{sym}
 use Rattle.std.proofs.lemmas.List.{length-replicate}
 use Rattle.networks.specs.Given.{PairInRange}
 use Rattle.std.proofs.lemmas.List.Elements.{All-replicate, recursion_from_All}
@@ -8,7 +8,7 @@ pub returns : goal.returns
 returns g c =
     let zero = g.met.C.Cost.ranges.zero in
     record {
-      count = c.self.view_is ∙ sym (length-replicate _ _);
-      range = recursion_from_All _ _ (All-replicate (PairInRange g.C.Cost.estimate_range) c.args.self.now _ (record { forward = zero; backward = zero }));
-      within = rw (← c.self.view_is) c.self.invariant;
+      count = sym (length-replicate _ _);
+      range = recursion_from_All _ _ (All-replicate (PairInRange g.C.Cost.estimate_range) c.args.self.now.count _ (record { forward = zero; backward = zero }));
+      within = c.args.self.now.within;
     }
