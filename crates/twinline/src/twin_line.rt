@@ -112,7 +112,7 @@ impl TwinLine {
         ensures { Only (end_of (line_of self.now) side) station 0 (2 * along_of (line_of self.now)) result }
     {
         let count = self.count;
-        // Kept: comparisons. With `contains` of a range, asking for a station's sections takes a quarter longer.
+        // Kept: comparisons. With `contains` of a range, asking for a station's sections in turn takes a third longer.
         match side {
             Side::Forward if station < count - 1 => Some(station),
             Side::Forward if station >= count && station < 2 * count - 1 => Some(station - 1),
