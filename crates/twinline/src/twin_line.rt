@@ -79,6 +79,7 @@ impl TwinLine {
     ghost use Rattle.twinline.specs.Held.{line_of};
 
     /// The twin line of a drawing, or the first parameter that breaks its range.
+    // Inlined, so that a line which is looked at on the spot is not first put together in memory.
     #[inline]
     pub fn new(drawing: Drawing) -> Result<TwinLine, Fault>
         ensures exact { on_ok line_of result ≡ line_drawn drawing }
